@@ -1,0 +1,83 @@
+ghost use Rattle.std.specs.Prelude.{◌≡◌, ◌<◌, [], ◌∷◌, ◌++◌, length, map, slice_get, OnOk, OnErr, IfOk};
+ghost use Rattle.std.specs.Arc.{arc_value};
+
+use crate::entities::Entity;
+use std::alloc::{AllocError, Global};
+use std::marker::Model;
+use std::sync::Arc;
+
+/// Shared entities, that contracts see as the list of the entities.
+#[derive(Debug, Drop)]
+pub struct Rows {
+    items: Vec<Arc<Entity>>,
+}
+
+impl Model for Rows {
+    ghost use Rattle.std.specs.Prelude.{List, map};
+    ghost use Rattle.std.specs.Arc.{arc_value};
+    ghost use Rattle.solid_base.specs.declared.entities.Entity.{Entity};
+
+    ghost Value = { List Entity };
+
+    ghost view = { λ r. map arc_value r.items.items };
+}
+
+impl Rows {
+    /// No rows, which take no memory yet.
+    pub fn new(alloc: Global) -> Rows
+        ensures { result ≡ [] }
+    {
+        Rows {
+            items: Vec::new(alloc),
+        }
+    }
+
+    /// The rows of these entities.
+    pub fn from_vec(items: Vec<Arc<Entity>>) -> Rows
+        ensures { result ≡ map arc_value items.items }
+    {
+        Rows { items }
+    }
+
+    /// The entities, in order.
+    pub fn as_slice(&self) -> &[Arc<Entity>]
+        ensures { map arc_value result.now ≡ self.now }
+    {
+        self.items.as_slice()
+    }
+
+    /// How many rows there are.
+    pub fn len(&self) -> usize
+        ensures { result ≡ length self.now }
+    {
+        self.items.len()
+    }
+
+    /// The entity at a place, counted from 0.
+    pub fn get(&self, at: usize) -> &Entity
+        requires { at < length self.now }
+        ensures { slice_get self.now at ≡ Some result.now }
+    {
+        &self.items[at]
+    }
+
+    /// Adds an entity at the end. Where memory is wanting the rows are unchanged.
+    pub fn push(&mut self, item: Arc<Entity>) -> Result<(), AllocError>
+        ensures ok { OnOk result (self.new ≡ self.old ++ arc_value item ∷ []) }
+        ensures err { OnErr result (self.new ≡ self.old) }
+    {
+        self.items.push(item)?;
+        Ok(())
+    }
+
+    /// The same entities, shared.
+    pub fn share(&self, alloc: Global) -> Result<Rows, AllocError>
+        ensures { IfOk result (λ rows. rows ≡ self.now) }
+    {
+        let mut items = Vec::with_capacity(alloc, self.items.len())?;
+        for item in &self.items {
+            items.push(item.clone()?)?;
+        }
+        Ok(Rows { items })
+    }
+}
