@@ -1,10 +1,6 @@
-ghost use Rattle.std.specs.Prelude.{◌≡◌, ◌≢◌, ◌≤◌, ◌^◌, length, All};
-
 use crate::lists::{Bytes, Lines, List};
 use crate::rows::Rows;
 use crate::solids::Row;
-use std::alloc::AllocError;
-use std::clone::Clone;
 
 /// A field of a record: nothing, or a number or text as it is spelt. Of a text, the content alone.
 #[derive(Debug, Drop, Clone, PartialEq, Eq)]
@@ -20,12 +16,11 @@ pub type Tokens = List<Token>;
 
 /// One entity: its row, the 96 bytes of directory fields that are kept unread, and the fields behind
 /// its defined parameters.
-#[derive(Debug, Drop)]
+#[derive(Debug, Drop, Clone, PartialEq, Eq)]
 pub struct Entity {
     pub row: Row,
     pub attrs: Bytes,
     pub tail: Tokens,
-    ghost columns: { length attrs ≡ 96 },
 }
 
 /// A model: the start lines, the delimiters, the global parameters from the third on, and the rows,
@@ -41,22 +36,10 @@ pub struct Model {
 
 /// The type, form, matrix and record of an entity that is to be read. The record is one line of at
 /// most 2^25 bytes.
-#[derive(Debug, Drop)]
+#[derive(Debug, Drop, Clone, PartialEq, Eq)]
 pub struct RowText {
     pub kind: u32,
     pub form: u32,
     pub matrix: u32,
     pub text: Bytes,
-    ghost line: { All (λ b. b ≢ 10) text },
-    ghost size: { length text ≤ 2 ^ 25 },
-}
-
-impl Clone for Entity {
-    fn clone(&self) -> Result<Entity, AllocError> {
-        Ok(Entity {
-            row: self.row.clone()?,
-            attrs: self.attrs.clone()?,
-            tail: self.tail.clone()?,
-        })
-    }
 }
