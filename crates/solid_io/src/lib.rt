@@ -1,0 +1,15 @@
+//! Where bytes come from and go to, and the spots at which a run may be held: traits, ends in memory
+//! whose failing calls are listed, adapters over std, and a gate that is always open.
+//! Contracts see the bytes left and held, told or not, and a count of failures that never falls.
+#![tactic(auto)]
+
+mod calls;
+mod gates;
+mod memory;
+mod standard;
+mod traits;
+
+pub use gates::OpenGate;
+pub use memory::{MemSink, MemSource};
+pub use standard::{StdSink, StdSource};
+pub use traits::{Failed, Gate, Sink, Source, Spot};
