@@ -62,7 +62,7 @@ def make_place(rng, radius, centre):
         return place
     grain = UNIT // 10 ** rng.choice(PLACES)
     for i in range(3):
-        reach = radius * 4 // 5 // grain
+        reach = radius * 102 // 100 // grain  # a cube with twice the volume of the sphere
         place[i] += rng.randint(-reach, reach) * grain
     return place
 
@@ -79,7 +79,11 @@ def write_points(out, rng, spheres, count):
 
 
 def main():
-    parser = argparse.ArgumentParser(description=__doc__.split("\n")[2])
+    parser = argparse.ArgumentParser(
+        usage=argparse.SUPPRESS,
+        description=__doc__,
+        formatter_class=argparse.RawDescriptionHelpFormatter,
+    )
     parser.add_argument("--spheres", type=int, default=90_000, help="1 to 100,000")
     parser.add_argument("--points", type=int, default=250_000)
     parser.add_argument("--seed", type=int, default=1)
