@@ -1,0 +1,110 @@
+#!/usr/bin/env python3
+"""run.py [PROGRAM] [--yardstick PATH] [--spheres N] [--points M] [--runs K]
+
+Times `PROGRAM replay` on generated spheres and point questions, turn by turn with another program that
+gives the same answers, the yardstick. Prints each one's best processor time (user and system) and its
+peak memory, and the ratios. Fails where an output or a status differs. With no yardstick there, times
+PROGRAM alone. The path of the yardstick comes from --yardstick, else from SOLIDD_YARDSTICK.
+"""
+import argparse
+import filecmp
+import os
+import subprocess
+import sys
+import tempfile
+
+HERE = os.path.dirname(os.path.abspath(__file__))
+ROOT = os.path.dirname(HERE)
+
+
+class Timing:
+    """The least processor time of some runs, and their greatest peak memory."""
+
+    def __init__(self, name, command):
+        self.name = name
+        self.command = command
+        self.seconds = float("inf")
+        self.megabytes = 0.0
+
+    def run(self, data, output):
+        """One run on the file `data`, with its output in the file `output`. Answers its status."""
+        with open(data, "rb") as source, open(output, "wb") as sink:
+            process = subprocess.Popen(self.command, stdin=source, stdout=sink)
+            _, wait_status, usage = os.wait4(process.pid, 0)
+            process.returncode = os.waitstatus_to_exitcode(wait_status)
+        self.seconds = min(self.seconds, usage.ru_utime + usage.ru_stime)
+        # Linux counts in KiB, and no less than this script's own size, some 15 MB.
+        self.megabytes = max(self.megabytes, usage.ru_maxrss * 1024 / 1e6)
+        return process.returncode
+
+    def line(self):
+        return "%-10s %8.3f s %8.1f MB" % (self.name, self.seconds, self.megabytes)
+
+
+def make_data(path, spheres, points):
+    maker = [sys.executable, os.path.join(HERE, "make_spheres.py")]
+    maker += ["--spheres", str(spheres), "--points", str(points)]
+    with open(path, "wb") as sink:
+        subprocess.run(maker, stdout=sink, check=True)
+
+
+def compare(folder, program, yardstick, runs):
+    """Runs both in turn. Answers a message where they differ, else None."""
+    data = os.path.join(folder, "input")
+    outputs = [os.path.join(folder, "output"), os.path.join(folder, "yardstick_output")]
+    for _ in range(runs):
+        status = program.run(data, outputs[0])
+        if status != 0:
+            return "%s ended with status %d" % (program.name, status)
+        if yardstick is None:
+            continue
+        status = yardstick.run(data, outputs[1])
+        if status != 0:
+            return "%s ended with status %d" % (yardstick.name, status)
+        if not filecmp.cmp(*outputs, shallow=False):
+            return "the outputs differ"
+    return None
+
+
+def main():
+    parser = argparse.ArgumentParser(
+        usage=argparse.SUPPRESS,
+        description=__doc__,
+        formatter_class=argparse.RawDescriptionHelpFormatter,
+    )
+    parser.add_argument("program", nargs="?", default=os.path.join(ROOT, "crates/solidd/out/solidd"))
+    parser.add_argument(
+        "--yardstick",
+        default=os.environ.get("SOLIDD_YARDSTICK", os.path.join(ROOT, "../shared/tools/yardstick")),
+    )
+    parser.add_argument("--spheres", type=int, default=90_000)
+    parser.add_argument("--points", type=int, default=250_000)
+    parser.add_argument("--runs", type=int, default=5)
+    args = parser.parse_args()
+    if args.runs < 1:
+        parser.error("at least one run")
+    if not os.access(args.program, os.X_OK):
+        parser.error("there is no program %s: ./solidd builds it" % args.program)
+    program = Timing("solidd", [os.path.abspath(args.program), "replay"])
+    yardstick = None
+    if os.access(args.yardstick, os.X_OK):
+        yardstick = Timing("yardstick", [os.path.abspath(args.yardstick), "--stage", "1", "replay"])
+    with tempfile.TemporaryDirectory() as folder:
+        data = os.path.join(folder, "input")
+        make_data(data, args.spheres, args.points)
+        megabytes = os.path.getsize(data) / 1e6
+        print("%d spheres, %d points, %.1f MB, best of %d" % (args.spheres, args.points, megabytes, args.runs))
+        problem = compare(folder, program, yardstick, args.runs)
+    if problem is not None:
+        sys.exit(problem)
+    print(program.line())
+    if yardstick is None:
+        print("no yardstick at %s" % args.yardstick)
+        return
+    print(yardstick.line())
+    print("%-10s %8.2f   %8.2f" % ("ratio", program.seconds / yardstick.seconds, program.megabytes / yardstick.megabytes))
+    print("the outputs are equal")
+
+
+if __name__ == "__main__":
+    main()
