@@ -35,7 +35,10 @@ pub enum Prim {
         w: Vec3,
     },
     /// Type 158.
-    Sphere { r: i128, centre: Vec3 },
+    Sphere {
+        r: i128,
+        centre: Vec3,
+    },
     /// Type 160: the radius of the centre circle, that of the tube, the centre and the axis `w`.
     Torus {
         r1: i128,
@@ -92,8 +95,20 @@ pub enum Row {
         affine: Affine,
         next: u32,
     },
-    Prim { prim: Prim, matrix: u32 },
-    Tree { items: Items, matrix: u32 },
-    Assembly { items: PlacedList, matrix: u32 },
-    Instance { child: u32, matrix: u32 },
+    Prim {
+        prim: Prim,
+        matrix: u32,
+    },
+    Tree {
+        items: Items,
+        matrix: u32,
+    },
+    Assembly {
+        items: PlacedList,
+        matrix: u32,
+    },
+    Instance {
+        child: u32,
+        matrix: u32,
+    },
 }
