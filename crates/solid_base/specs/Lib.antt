@@ -1,2 +1,4 @@
 pub mod Digits
+pub mod Spelling
+pub mod Decimal
 pub mod Range
