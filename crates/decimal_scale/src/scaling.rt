@@ -1,0 +1,118 @@
+ghost use Rattle.std.specs.Prelude.{◌≡◌, ℕ, List, ◌+◌, ◌-◌, ◌*◌, ◌^◌, ◌<◌, ◌≤◌, ◌++◌, min, length, All, IsTrue};
+ghost use Rattle.solid_base.specs.Digits.{is_digit, AreDigits, number_of};
+ghost use Rattle.solid_base.specs.Spelling.{Sign};
+ghost use Rattle.solid_base.specs.Decimal.{nearest, if_minus, unless_minus};
+ghost use Rattle.decimal_scale.specs.Sizes.{past, is_minus};
+
+use crate::digits::{PAST, continued};
+
+/// A power of ten.
+fn power_of_ten(exponent: u64) -> u64
+    requires { exponent ≤ 18 }
+    ensures { result ≡ 10 ^ exponent }
+{
+    POWERS[exponent as usize]
+}
+
+/// A number times a power of ten, or `PAST` where that is larger.
+fn scaled(number: u64, exponent: u64) -> u64
+    requires { number ≤ past }
+    ensures { (n e : ℕ) → number ≡ min n past → min exponent 19 ≡ min e 19 → result ≡ min (n * 10 ^ e) past }
+{
+    if number == 0 {
+        0
+    } else if exponent > 18 {
+        PAST
+    } else {
+        number.saturating_mul(power_of_ten(exponent)).min(PAST)
+    }
+}
+
+/// The number that the first digits spell, `keep` of them, behind those of `start`, rounded by the
+/// digit that follows; or `PAST` where it is larger. No digit behind that one counts.
+fn rounded(start: u64, digits: &[u8], keep: usize) -> u64
+    requires start { start ≤ past }
+    requires digits { All (λ b. IsTrue (is_digit b)) digits.now }
+    requires kept { keep < length digits.now }
+    ensures { (before rest : List ℕ) → start ≡ min (number_of before) past → AreDigits rest
+        → result ≡ min (nearest (number_of (before ++ (digits.now ++ rest))) 0 (length digits.now - keep + length rest)) past }
+{
+    let number = continued(start, &digits[..keep]);
+    if digits[keep] >= b'5' {
+        (number + 1).min(PAST)
+    } else {
+        number
+    }
+}
+
+/// The number with these digits before and behind its point, times a power of ten, rounded; or `PAST`
+/// where it is larger.
+fn raised(whole: &[u8], decimals: &[u8], exponent: u64) -> u64
+    requires whole { All (λ b. IsTrue (is_digit b)) whole.now }
+    requires decimals { All (λ b. IsTrue (is_digit b)) decimals.now }
+    ensures { (e : ℕ) → exponent ≡ min e u64.MAX
+        → result ≡ min (nearest (number_of (whole.now ++ decimals.now)) e (length decimals.now)) past }
+{
+    let start = continued(0, whole);
+    let count = decimals.len() as u64;
+    if exponent < count {
+        rounded(start, decimals, exponent as usize)
+    } else {
+        scaled(continued(start, decimals), exponent - count)
+    }
+}
+
+/// The number with these digits before its point, divided by a power of ten, rounded; or `PAST` where
+/// it is larger. Its decimals don't count.
+fn lowered(whole: &[u8], exponent: u64) -> u64
+    requires whole { All (λ b. IsTrue (is_digit b)) whole.now }
+    requires some { 0 < exponent }
+    ensures { (decimals : List ℕ) (e : ℕ) → AreDigits decimals → min exponent (length whole.now + 1) ≡ min e (length whole.now + 1)
+        → result ≡ min (nearest (number_of (whole.now ++ decimals)) 0 (length decimals + e)) past }
+{
+    let count = whole.len() as u64;
+    if exponent > count {
+        0
+    } else {
+        rounded(0, whole, (count - exponent) as usize)
+    }
+}
+
+/// The magnitude in steps of the number with these digits before and behind its point and this
+/// exponent; or `PAST` where it is larger.
+pub fn magnitude(whole: &[u8], decimals: &[u8], is_negative: bool, exponent: u64) -> u64
+    requires whole { All (λ b. IsTrue (is_digit b)) whole.now }
+    requires decimals { All (λ b. IsTrue (is_digit b)) decimals.now }
+    ensures { (sign : Sign) (e : ℕ) → is_negative ≡ is_minus sign → exponent ≡ min e u64.MAX
+        → result ≡ min (nearest (number_of (whole.now ++ decimals.now)) (12 + unless_minus sign e) (length decimals.now + if_minus sign e)) past }
+{
+    if !is_negative {
+        raised(whole, decimals, exponent.saturating_add(12))
+    } else if exponent <= 12 {
+        raised(whole, decimals, 12 - exponent)
+    } else {
+        lowered(whole, exponent - 12)
+    }
+}
+
+const POWERS: [u64; 19] = [
+    1,
+    10,
+    100,
+    1_000,
+    10_000,
+    100_000,
+    1_000_000,
+    10_000_000,
+    100_000_000,
+    1_000_000_000,
+    10_000_000_000,
+    100_000_000_000,
+    1_000_000_000_000,
+    10_000_000_000_000,
+    100_000_000_000_000,
+    1_000_000_000_000_000,
+    10_000_000_000_000_000,
+    100_000_000_000_000_000,
+    1_000_000_000_000_000_000,
+];
