@@ -1,8 +1,6 @@
 -- Powers of ten.
-use Rattle.std.proofs.Common.{◌≡◌, ℕ, zero, suc, ◌+◌, ◌*◌, ◌^◌, ◌<◌, ◌≤◌, List, [], ◌∷◌, refl, sym, ◌∙◌, arith, slice_index_or, min, mul-le-mul}
+use Rattle.std.proofs.Common.{◌≡◌, ℕ, zero, suc, ◌*◌, ◌^◌, ◌<◌, ◌≤◌, List, [], ◌∷◌, ◌∙◌, arith, slice_index_or}
 use Rattle.std.proofs.Math.Nat.{pow-suc, pow-le-pow_right}
-use Rattle.solid_base.proofs.Digits.{ten_positive}
-use Rattle.decimal_scale.specs.Sizes.{past}
 
 -- n powers of ten, from x on
 powers : ℕ → ℕ → List ℕ
@@ -19,3 +17,6 @@ pub table_at : (k : ℕ) → k ≤ 18
     → slice_index_or (1 ∷ 10 ∷ 100 ∷ 1000 ∷ 10000 ∷ 100000 ∷ 1000000 ∷ 10000000 ∷ 100000000 ∷ 1000000000 ∷ 10000000000 ∷ 100000000000 ∷ 1000000000000 ∷ 10000000000000 ∷ 100000000000000 ∷ 1000000000000000 ∷ 10000000000000000 ∷ 100000000000000000 ∷ 1000000000000000000 ∷ []) k 0 ≡ 10 ^ k
 unfolding powers
 table_at k h = powers_at 19 1 k (omega arith) ∙ omega arith
+
+pub power_at_least : (k e : ℕ) → k ≤ e → 10 ^ k ≤ 10 ^ e
+power_at_least k e h = pow-le-pow_right (omega arith) h

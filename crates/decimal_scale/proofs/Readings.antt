@@ -1,12 +1,12 @@
 -- What `read` gives is the reading of the text.
-use Rattle.std.proofs.Common.{◌≡◌, ◌⊎◌, inl, inr, ℕ, zero, suc, ◌+◌, ◌^◌, ◌<◌, ◌≤◌, ◌↔◌, List, [], ◌∷◌, ◌++◌, length, take, drop, Bool, true, false, cond, not, ◌&&◌, ◌==◌, nat_lt, Option, Some, None, Result, Ok, Err, IsErrAnd, ℤ, pos, negsuc, neg_ℤ, unsigned_abs, refl, sym, ap, subst, ◌∙◌, arith}
+use Rattle.std.proofs.Common.{◌≡◌, ◌⊎◌, inl, inr, ℕ, ◌+◌, ◌^◌, ◌<◌, ◌≤◌, List, [], ◌∷◌, ◌++◌, length, take, drop, Bool, true, false, cond, ◌==◌, nat_lt, Option, Some, None, Result, Ok, Err, IsErrAnd, ℤ, unsigned_abs, refl, sym, ap, subst, ◌∙◌, arith}
 use Rattle.std.proofs.lemmas.Bool.{cases_lt}
 use Rattle.std.proofs.lemmas.Bool.Decides.{nat_tests}
 use Rattle.std.proofs.lemmas.Int.{ints}
 use Rattle.std.proofs.lemmas.List.Folds.{length-prefix_len}
 use Rattle.solid_base.specs.Digits.{is_digit, number_of}
-use Rattle.solid_base.specs.Spelling.{Sign, NoSign, Plus, Minus, Number, decimals_of, IsNumeral, number_text, sign_of, behind_sign, digit_count, behind_digits, is_exponent, Spelling, Empty, Whole, Real, class_of, class_behind, exponent_of, number_behind, number_of_text}
-use Rattle.solid_base.specs.Decimal.{mantissa_of, raised_by, lowered_by, with_sign, IsNearest, IsReading, nearest}
+use Rattle.solid_base.specs.Spelling.{Sign, NoSign, Plus, Minus, Number, decimals_of, IsNumeral, sign_of, behind_sign, digit_count, behind_digits, is_exponent, Spelling, Empty, Whole, Real, class_of, class_behind, exponent_of, number_behind, number_of_text}
+use Rattle.solid_base.specs.Decimal.{mantissa_of, raised_by, lowered_by, with_sign, IsReading, nearest}
 use Rattle.solid_base.proofs.Numerals.{number_again, number_sign, whole_is_spelt, real_is_spelt, whole_is_read, real_is_read}
 use Rattle.solid_base.proofs.Decimals.{nearest_unique, nearest_is, reading_exists, reading_numeral}
 use Rattle.decimal_scale.specs.declared.faults.RealFault.{RealFault}

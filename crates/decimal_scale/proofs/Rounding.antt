@@ -1,5 +1,5 @@
 -- Rounding and scaling, over plain numbers and lists of digits.
-use Rattle.std.proofs.Common.{◌≡◌, ◌⊎◌, inl, inr, ℕ, zero, suc, ◌+◌, ◌-◌, ◌*◌, ◌/◌, ◌^◌, ◌<◌, ◌≤◌, List, [], ◌∷◌, ◌++◌, length, take, drop, get_or, fold, min, IsTrue, Bool, true, refl, sym, ap, subst, ◌∙◌, arith, append_assoc, length-append, length-drop, mul-le-mul}
+use Rattle.std.proofs.Common.{◌≡◌, inl, inr, ℕ, suc, ◌+◌, ◌-◌, ◌*◌, ◌^◌, ◌<◌, ◌≤◌, List, [], ◌∷◌, ◌++◌, length, take, drop, get_or, min, IsTrue, true, refl, sym, ap, subst, ◌∙◌, arith, append_assoc, length-append, length-drop, mul-le-mul}
 use Rattle.std.specs.List.{All}
 use Rattle.std.proofs.Math.Nat.{pow-suc, pow-le-pow_right}
 use Rattle.std.proofs.Math.Seq.{drop-cons}
@@ -10,9 +10,10 @@ use Rattle.std.proofs.lemmas.List.Sums.{fold-append}
 use Rattle.std.proofs.lemmas.List.Elements.{recursion_from_All}
 use Rattle.solid_base.specs.Digits.{is_digit, AreDigits, number_of}
 use Rattle.solid_base.specs.Decimal.{IsNearest, nearest, if_minus, unless_minus}
-use Rattle.solid_base.proofs.Digits.{ten_positive, digit_within, number_of-cons, number_of-append, number_of_less}
+use Rattle.solid_base.proofs.Digits.{ten_positive, digit_within, digits_append, digits_drop, number_of-cons, number_of-append, number_of_less}
 use Rattle.solid_base.proofs.Decimals.{nearest_unique, nearest_is}
 use Rattle.solid_base.specs.Spelling.{Sign, NoSign, Plus, Minus}
+use Rattle.decimal_scale.proofs.Powers.{power_at_least}
 use Rattle.decimal_scale.specs.Sizes.{past, number_after, is_minus}
 
 -- ---- the nearest whole number of a scaled quotient
@@ -75,9 +76,6 @@ nearest_none m a down h k =
 pub scaled_none : (number n e : ℕ) → number ≡ min n past → number ≡ 0 → 0 ≡ min (n * 10 ^ e) past
 scaled_none number n e h k = let z : n ≡ 0 = omega arith in rw z (omega arith)
 
-power_at_least : (k e : ℕ) → k ≤ e → 10 ^ k ≤ 10 ^ e
-power_at_least k e h = pow-le-pow_right (omega arith) h
-
 product_above : (a b x y : ℕ) → a ≤ x → b ≤ y → a * b ≤ x * y
 product_above a b x y h k = mul-le-mul h k
 
@@ -124,15 +122,6 @@ spelt_cut before digits rest k h =
     ap (λ (t : List ℕ). number_of (before ++ (t ++ rest))) cut ∙ ap (λ (t : List ℕ). number_of t) glue
     ∙ number_of-append (before ++ take k digits) (d ∷ end)
     ∙ ap (λ (v : ℕ). number_of (before ++ take k digits) * 10 ^ suc (length end) + v) (number_of-cons d end)
-
-digits_append : (xs ys : List ℕ) → AreDigits xs → AreDigits ys → AreDigits (xs ++ ys)
-digits_append [] ys h k = k
-digits_append (x ∷ xs) ys h k = (h.0, digits_append xs ys h.1 k)
-
-digits_drop : (k : ℕ) (xs : List ℕ) → AreDigits xs → AreDigits (drop k xs)
-digits_drop zero xs h = h
-digits_drop (suc k) [] h = tt
-digits_drop (suc k) (x ∷ xs) h = digits_drop k xs h.1
 
 pub rounded_up_is : (start number : ℕ) (before digits rest : List ℕ) (k : ℕ) → All (λ b. IsTrue (is_digit b)) digits → AreDigits rest → k < length digits
     → start ≡ min (number_of before) past → number ≡ min (number_after start (take k digits)) past → 53 ≤ get_or digits k 0

@@ -1,2 +1,3 @@
 pub mod Faults
 pub mod Sizes
+pub mod Writing

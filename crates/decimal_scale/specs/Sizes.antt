@@ -1,6 +1,5 @@
 -- What the steps of reading give: the magnitude of a number in steps, up to the bound.
-use Rattle.std.specs.Prelude.{◌≡◌, ℕ, ◌+◌, ◌-◌, ◌*◌, ◌^◌, List, [], ◌∷◌, ◌++◌, length, take, fold, Bool, true, false, cond, nat_lt, nat_le, ◌==◌, Option, Some, None, Result, Ok, Err, ℤ, pos, neg_ℤ}
-use Rattle.solid_base.specs.Digits.{number_of}
+use Rattle.std.specs.Prelude.{ℕ, ◌+◌, ◌-◌, ◌*◌, ◌^◌, List, length, fold, Bool, true, false, cond, nat_lt, Option, Some, None, Result, Ok, Err, ℤ}
 use Rattle.solid_base.specs.Spelling.{Sign, NoSign, Plus, Minus, Number, decimals_of, sign_of, Spelling, Empty, Whole, Real, class_of, number_of_text}
 use Rattle.solid_base.specs.Decimal.{mantissa_of, raised_by, lowered_by, with_sign, nearest}
 use Rattle.decimal_scale.specs.declared.faults.RealFault.{RealFault}

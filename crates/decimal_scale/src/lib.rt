@@ -7,6 +7,11 @@ mod digits;
 mod faults;
 mod reading;
 mod scaling;
+mod writing;
 
 pub use faults::RealFault;
 pub use reading::read_real;
+pub use writing::write_real;
+
+#[cfg(test)]
+mod tests;

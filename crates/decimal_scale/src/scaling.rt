@@ -7,9 +7,10 @@ ghost use Rattle.decimal_scale.specs.Sizes.{past, is_minus};
 use crate::digits::{PAST, continued};
 
 /// A power of ten.
-fn power_of_ten(exponent: u64) -> u64
+pub fn power_of_ten(exponent: u64) -> u64
     requires { exponent ≤ 18 }
-    ensures { result ≡ 10 ^ exponent }
+    ensures value { result ≡ 10 ^ exponent }
+    ensures bounds { (1 ≤ result) × (result ≤ 10 ^ 18) }
 {
     POWERS[exponent as usize]
 }

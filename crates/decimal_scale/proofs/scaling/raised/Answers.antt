@@ -1,4 +1,4 @@
-use Rattle.std.proofs.Common.{ℕ, List, [], ◌-◌, ◌++◌, length, arith, refl, ◌∙◌}
+use Rattle.std.proofs.Common.{[], ◌-◌, ◌++◌, length, arith, ◌∙◌}
 use Rattle.solid_base.specs.Digits.{number_of}
 use Rattle.decimal_scale.proofs.Rounding.{raised_cut, raised_exact, continued_is}
 use Rattle.decimal_scale.proofs.scaling.raised.Goals as goal
