@@ -13,6 +13,8 @@ use Rattle.solid_base.specs.Spelling.{Sign, NoSign, Minus, sign_text}
 use Rattle.solid_base.specs.Decimal.{with_sign, IsNearest, IsReading}
 use Rattle.solid_base.proofs.Digits.{ten_positive, number_of-append, digits_append, digits_take, number_of_zeros}
 use Rattle.decimal_scale.specs.Writing.{last_digits, minus_text, real_text}
+use Rattle.decimal_scale.specs.Reading.{reading_of}
+use Rattle.decimal_scale.proofs.Readings.{read_small}
 use Rattle.decimal_scale.proofs.Texts.{length-last_digits}
 
 -- ---- digits and what they spell
@@ -104,3 +106,7 @@ reads_back value h =
 pub ok_reads_back : (r : Result (List ℕ) AllocError) (value : ℤ) (places : ℕ) → places ≡ 12 → unsigned_abs value ≤ 10 ^ 37 → IfOk r (λ text. text ≡ real_text value places) → IfOk r (λ text. IsReading text value)
 ok_reads_back (Ok text) value places twelve h is = subst (λ (t : List ℕ). IsReading t value) (sym (is ∙ ap (real_text value) twelve)) (reads_back value h)
 ok_reads_back (Err e) value places twelve h is = tt
+
+-- what is written of some steps is read as these steps
+pub reading_of-written : (steps : ℤ) → unsigned_abs steps ≤ 10 ^ 18 → reading_of (real_text steps 12) ≡ Ok steps
+reading_of-written steps h = read_small (real_text steps 12) steps (reads_back steps (omega arith)) h

@@ -1,4 +1,4 @@
--- What `read` gives is the reading of the text.
+-- What a text is read as is the reading of the text.
 use Rattle.std.proofs.Common.{◌≡◌, ◌⊎◌, inl, inr, ℕ, ◌+◌, ◌^◌, ◌<◌, ◌≤◌, List, [], ◌∷◌, ◌++◌, length, take, drop, Bool, true, false, cond, ◌==◌, nat_lt, Option, Some, None, Result, Ok, Err, IsErrAnd, ℤ, unsigned_abs, refl, sym, ap, subst, ◌∙◌, arith}
 use Rattle.std.proofs.lemmas.Bool.{cases_lt}
 use Rattle.std.proofs.lemmas.Bool.Decides.{nat_tests}
@@ -11,7 +11,7 @@ use Rattle.solid_base.proofs.Numerals.{number_again, number_sign, whole_is_spelt
 use Rattle.solid_base.proofs.Decimals.{nearest_unique, nearest_is, reading_exists, reading_numeral}
 use Rattle.decimal_scale.specs.declared.faults.RealFault.{RealFault}
 use Rattle.decimal_scale.specs.declared.faults.RealFault.TheVariants.{BadReal, TooBig}
-use Rattle.decimal_scale.specs.Sizes.{past, in_range, size_of, sized, signed, read}
+use Rattle.decimal_scale.specs.Reading.{past, in_range, size_of, sized, signed, reading_of}
 
 -- ---- the steps of reading
 pub end_empty : (m count : ℕ) (end : List ℕ) (r : Result ℕ RealFault) → length end < 1 → r ≡ in_range (nearest m (12 + 0) (count + 0))
@@ -24,8 +24,8 @@ pub size_empty : (sign : Sign) (whole rest : List ℕ) (r : Result ℕ RealFault
 size_empty sign whole [] r h some is = let z : (length whole == 0) ≡ false = grind arith in rw z is
 size_empty sign whole (b ∷ bs) r h some is = absurd (omega arith)
 
-read_parts : (text : List ℕ) → read text ≡ signed (sign_of text) (sized (class_behind (length (take (digit_count (behind_sign text)) (behind_sign text))) (behind_digits (behind_sign text))) (number_of_text text))
-unfolding read
+read_parts : (text : List ℕ) → reading_of text ≡ signed (sign_of text) (sized (class_behind (length (take (digit_count (behind_sign text)) (behind_sign text))) (behind_digits (behind_sign text))) (number_of_text text))
+unfolding reading_of
 read_parts [] = refl
 read_parts (b ∷ bs) =
     let digits = behind_sign (b ∷ bs) in
@@ -33,7 +33,7 @@ read_parts (b ∷ bs) =
 
 -- a text cut behind its sign and its digits
 pub read_is : (text digits whole rest : List ℕ) (count : ℕ) (r : Result ℕ RealFault) → digits ≡ behind_sign text → count ≡ digit_count digits → whole ≡ take count digits → rest ≡ drop count digits
-    → r ≡ sized (class_behind (length whole) rest) (number_behind (sign_of text) whole rest) → read text ≡ signed (sign_of text) r
+    → r ≡ sized (class_behind (length whole) rest) (number_behind (sign_of text) whole rest) → reading_of text ≡ signed (sign_of text) r
 read_is text digits whole rest count r h i j k is =
     let n : count ≡ digit_count (behind_sign text) = i ∙ ap digit_count h in
     let front : whole ≡ take (digit_count (behind_sign text)) (behind_sign text) = j ∙ ap (λ (m : ℕ). take m digits) n ∙ ap (take (digit_count (behind_sign text))) h in
@@ -58,8 +58,8 @@ class_numeral : (text : List ℕ) → IsNumeral text → (k : Spelling) × (clas
 class_numeral text (inl h) = (Whole, whole_is_read text h, inl refl)
 class_numeral text (inr h) = (Real, real_is_read text h, inr refl)
 
-read_number : (text : List ℕ) (steps : ℤ) (h : IsReading text steps) → read text ≡ signed h.number.sign (in_range h.size)
-unfolding read
+read_number : (text : List ℕ) (steps : ℤ) (h : IsReading text steps) → reading_of text ≡ signed h.number.sign (in_range h.size)
+unfolding reading_of
 read_number text steps h =
     let (k, class, kind) = class_numeral text (reading_numeral text steps h) in
     let parts : number_of_text text ≡ h.number = ap number_of_text h.spelt ∙ (number_again h.number h.lawful).1 in
@@ -76,13 +76,13 @@ abs_signed NoSign n = refl
 abs_signed Plus n = refl
 abs_signed Minus n = omega (arith, ints)
 
-pub read_small : (text : List ℕ) (steps : ℤ) → IsReading text steps → unsigned_abs steps ≤ 10 ^ 18 → read text ≡ Ok steps
+pub read_small : (text : List ℕ) (steps : ℤ) → IsReading text steps → unsigned_abs steps ≤ 10 ^ 18 → reading_of text ≡ Ok steps
 read_small text steps h small =
     let size : unsigned_abs steps ≡ h.size = ap unsigned_abs h.signed ∙ abs_signed h.number.sign h.size in
     let is : nat_lt h.size past ≡ true = grind (arith, nat_tests) in
     read_number text steps h ∙ ap (λ (v : Bool). signed h.number.sign (cond v (Ok h.size) (Err TooBig))) is ∙ ap (λ (z : ℤ). Ok z) (sym h.signed)
 
-pub read_large : (text : List ℕ) (steps : ℤ) → IsReading text steps → 10 ^ 18 < unsigned_abs steps → read text ≡ Err TooBig
+pub read_large : (text : List ℕ) (steps : ℤ) → IsReading text steps → 10 ^ 18 < unsigned_abs steps → reading_of text ≡ Err TooBig
 read_large text steps h large =
     let size : unsigned_abs steps ≡ h.size = ap unsigned_abs h.signed ∙ abs_signed h.number.sign h.size in
     let is : nat_lt h.size past ≡ false = grind (arith, nat_tests) in
@@ -90,9 +90,9 @@ read_large text steps h large =
 
 -- ---- what a text is read as, whatever it is
 pub data Outcome (text : List ℕ) : Type 0 where
-  NoNumber : (IsNumeral text → ⊥) → read text ≡ Err BadReal → Outcome text
-  Large : (steps : ℤ) → IsReading text steps → 10 ^ 18 < unsigned_abs steps → read text ≡ Err TooBig → Outcome text
-  Small : (steps : ℤ) → IsReading text steps → unsigned_abs steps ≤ 10 ^ 18 → read text ≡ Ok steps → Outcome text
+  NoNumber : (IsNumeral text → ⊥) → reading_of text ≡ Err BadReal → Outcome text
+  Large : (steps : ℤ) → IsReading text steps → 10 ^ 18 < unsigned_abs steps → reading_of text ≡ Err TooBig → Outcome text
+  Small : (steps : ℤ) → IsReading text steps → unsigned_abs steps ≤ 10 ^ 18 → reading_of text ≡ Ok steps → Outcome text
 
 numeral_outcome : (text : List ℕ) → IsNumeral text → Outcome text
 numeral_outcome text h =
@@ -100,11 +100,11 @@ numeral_outcome text h =
     elim (cases_lt (10 ^ 18) (unsigned_abs steps)) [ inl l ↦ Large steps is l (read_large text steps is l) | inr l ↦ Small steps is l (read_small text steps is l) ]
 
 none_outcome : (text : List ℕ) → class_of text ≡ None → Outcome text
-unfolding read
+unfolding reading_of
 none_outcome text h = NoNumber (λ n. (let (k, class, kind) = class_numeral text n in let e : None ≡ Some k = sym h ∙ class in cc)) (ap (λ (o : Option Spelling). signed (sign_of text) (sized o (number_of_text text))) h)
 
 empty_outcome : (text : List ℕ) → class_of text ≡ Some Empty → Outcome text
-unfolding read
+unfolding reading_of
 empty_outcome text h = NoNumber (λ n. not_empty n) (ap (λ (o : Option Spelling). signed (sign_of text) (sized o (number_of_text text))) h) where
   not_empty : IsNumeral text → ⊥
   not_empty (inl n) = let e : Some Empty ≡ Some Whole = sym h ∙ whole_is_read text n in cc
@@ -118,16 +118,16 @@ outcome text = go (class_of text) refl where
   go (Some Whole) h = numeral_outcome text (inl (whole_is_spelt text h))
   go (Some Real) h = numeral_outcome text (inr (real_is_spelt text h))
 
-pub bad_only : (text : List ℕ) → read text ≡ Err BadReal → IsNumeral text → ⊥
+pub bad_only : (text : List ℕ) → reading_of text ≡ Err BadReal → IsNumeral text → ⊥
 bad_only text r n = elim (outcome text) [ NoNumber h e ↦ h n | Large s h l e ↦ cc | Small s h l e ↦ cc ]
 
-pub bad_always : (text : List ℕ) → (IsNumeral text → ⊥) → read text ≡ Err BadReal
+pub bad_always : (text : List ℕ) → (IsNumeral text → ⊥) → reading_of text ≡ Err BadReal
 bad_always text n = elim (outcome text) [ NoNumber h e ↦ e | Large s h l e ↦ absurd (n (reading_numeral text s h)) | Small s h l e ↦ absurd (n (reading_numeral text s h)) ]
 
-pub big_only : (text : List ℕ) → read text ≡ Err TooBig → (steps : ℤ) × IsReading text steps × (10 ^ 18 < unsigned_abs steps)
+pub big_only : (text : List ℕ) → reading_of text ≡ Err TooBig → (steps : ℤ) × IsReading text steps × (10 ^ 18 < unsigned_abs steps)
 big_only text r = elim (outcome text) [ NoNumber h e ↦ cc | Large s h l e ↦ (s, h, l) | Small s h l e ↦ cc ]
 
-pub steps_only : (text : List ℕ) (steps : ℤ) → read text ≡ Ok steps → IsReading text steps × (unsigned_abs steps ≤ 10 ^ 18)
+pub steps_only : (text : List ℕ) (steps : ℤ) → reading_of text ≡ Ok steps → IsReading text steps × (unsigned_abs steps ≤ 10 ^ 18)
 steps_only text steps r = elim (outcome text) [
   | NoNumber h e ↦ cc
   | Large s h l e ↦ cc

@@ -14,7 +14,7 @@ use Rattle.solid_base.proofs.Digits.{ten_positive, digit_within, digits_append, 
 use Rattle.solid_base.proofs.Decimals.{nearest_unique, nearest_is}
 use Rattle.solid_base.specs.Spelling.{Sign, NoSign, Plus, Minus}
 use Rattle.decimal_scale.proofs.Powers.{power_at_least}
-use Rattle.decimal_scale.specs.Sizes.{past, number_after, is_minus}
+use Rattle.decimal_scale.specs.Reading.{past, number_after, is_minus}
 
 -- ---- the nearest whole number of a scaled quotient
 scaled_above : (a b t : ℕ) → a ≤ b → a * t ≤ b * t

@@ -1,3 +1,3 @@
 pub mod Faults
-pub mod Sizes
+pub mod Reading
 pub mod Writing

@@ -1,7 +1,7 @@
-ghost use Rattle.std.specs.Prelude.{◌≡◌, ◌≤◌, min, length, take, cond, All, IsTrue};
-ghost use Rattle.solid_base.specs.Digits.{is_digit, number_of};
+ghost use Rattle.std.specs.Prelude.{◌≡◌, ◌≤◌, min, length, take, cond};
+ghost use Rattle.solid_base.specs.Digits.{number_of};
 ghost use Rattle.solid_base.specs.Spelling.{digit_count, behind_sign, is_whole};
-ghost use Rattle.decimal_scale.specs.Sizes.{past, number_after};
+ghost use Rattle.decimal_scale.specs.Reading.{past, number_after, AllDigits};
 
 /// The least magnitude in steps that is too big.
 pub const PAST: u64 = 1_000_000_000_000_000_001;
@@ -9,7 +9,7 @@ pub const PAST: u64 = 1_000_000_000_000_000_001;
 /// How many digits stand in front of a text.
 pub fn digit_count(text: &[u8]) -> usize
     ensures within { result ≤ length text.now }
-    ensures digits { All (λ b. IsTrue (is_digit b)) (take result text.now) }
+    ensures digits { AllDigits (take result text.now) }
     ensures value { result ≡ digit_count text.now }
 {
     text.iter()
@@ -30,7 +30,7 @@ pub fn after_sign(text: &[u8]) -> &[u8]
 /// The number that digits spell behind the digits of a number, or `PAST` where it is larger.
 pub fn continued(start: u64, digits: &[u8]) -> u64
     requires start { start ≤ past }
-    requires digits { All (λ b. IsTrue (is_digit b)) digits.now }
+    requires digits { AllDigits digits.now }
     ensures { result ≡ min (number_after start digits.now) past }
 {
     let mut number = start;
@@ -43,7 +43,8 @@ pub fn continued(start: u64, digits: &[u8]) -> u64
 /// The size of a power of ten: the number behind a sign or none, or the greatest `u64` where it is
 /// larger. None where anything else stands there.
 pub fn power(text: &[u8]) -> Option<u64>
-    ensures { result ≡ cond (is_whole text.now) (Some (min (number_of (behind_sign text.now)) u64.MAX)) None }
+    ensures { result ≡ cond (is_whole text.now)
+        (Some (min (number_of (behind_sign text.now)) u64.MAX)) None }
 {
     let digits = after_sign(text);
     let count = digit_count(digits);
@@ -55,7 +56,7 @@ pub fn power(text: &[u8]) -> Option<u64>
 
 /// The number that digits spell, or the greatest `u64`.
 fn number_in(digits: &[u8]) -> u64
-    requires { All (λ b. IsTrue (is_digit b)) digits.now }
+    requires { AllDigits digits.now }
     ensures { result ≡ min (number_of digits.now) u64.MAX }
 {
     let mut number: u64 = 0;

@@ -1,8 +1,8 @@
-ghost use Rattle.std.specs.Prelude.{◌≡◌, ℕ, ℤ, ◌+◌, ◌^◌, ◌<◌, ◌≤◌, ◌∷◌, ◌++◌, ◌↔◌, min, length, cond, All, IsTrue, unsigned_abs};
-ghost use Rattle.solid_base.specs.Digits.{is_digit, number_of};
+ghost use Rattle.std.specs.Prelude.{◌≡◌, ℕ, ℤ, ◌+◌, ◌^◌, ◌<◌, ◌≤◌, ◌∷◌, ◌++◌, ◌↔◌, min, length, cond, unsigned_abs};
+ghost use Rattle.solid_base.specs.Digits.{number_of};
 ghost use Rattle.solid_base.specs.Spelling.{Sign, IsNumeral, sign_of, behind_sign, is_whole, is_exponent, class_behind, exponent_of, number_behind};
 ghost use Rattle.solid_base.specs.Decimal.{IsReading, nearest, raised_by, lowered_by, with_sign};
-ghost use Rattle.decimal_scale.specs.Sizes.{past, is_minus, in_range, sized, read};
+ghost use Rattle.decimal_scale.specs.Reading.{past, is_minus, in_range, sized, reading_of, AllDigits};
 
 use crate::digits::{PAST, after_sign, digit_count, power};
 use crate::faults::RealFault;
@@ -16,14 +16,17 @@ use crate::scaling::magnitude;
 /// rounded magnitude exceeds 10^18.
 pub fn read_real(text: &[u8]) -> Result<i128, RealFault>
     ensures bad { (result ≡ Err RealFault.BadReal) ↔ (¬ IsNumeral text.now) }
-    ensures big { (result ≡ Err RealFault.TooBig) ↔ ((steps : ℤ) × IsReading text.now steps × (10 ^ 18 < unsigned_abs steps)) }
-    ensures steps { (steps : ℤ) → (result ≡ Ok steps) ↔ (IsReading text.now steps × (unsigned_abs steps ≤ 10 ^ 18)) }
+    ensures big { (result ≡ Err RealFault.TooBig)
+        ↔ ((steps : ℤ) × IsReading text.now steps × (10 ^ 18 < unsigned_abs steps)) }
+    ensures steps { (steps : ℤ) → (result ≡ Ok steps)
+        ↔ (IsReading text.now steps × (unsigned_abs steps ≤ 10 ^ 18)) }
+    ensures value { result ≡ reading_of text.now }
 {
     read(text)
 }
 
 fn read(text: &[u8]) -> Result<i128, RealFault>
-    ensures { result ≡ read text.now }
+    ensures { result ≡ reading_of text.now }
 {
     let digits = after_sign(text);
     let (whole, rest) = digits.split_at(digit_count(digits));
@@ -51,8 +54,9 @@ fn is_negative(text: &[u8]) -> bool
 
 /// The magnitude of a number, of which these are the whole digits and the text behind them.
 fn read_size(whole: &[u8], rest: &[u8]) -> Result<u64, RealFault>
-    requires { All (λ b. IsTrue (is_digit b)) whole.now }
-    ensures { (sign : Sign) → result ≡ sized (class_behind (length whole.now) rest.now) (number_behind sign whole.now rest.now) }
+    requires { AllDigits whole.now }
+    ensures { (sign : Sign) → result
+        ≡ sized (class_behind (length whole.now) rest.now) (number_behind sign whole.now rest.now) }
 {
     match rest {
         [] if whole.len() == 0 => Err(RealFault::BadReal),
@@ -65,8 +69,9 @@ fn read_size(whole: &[u8], rest: &[u8]) -> Result<u64, RealFault>
 
 /// The magnitude of a number, of which these are the whole digits and the text behind the point.
 fn read_fraction(whole: &[u8], rest: &[u8]) -> Result<u64, RealFault>
-    requires { All (λ b. IsTrue (is_digit b)) whole.now }
-    ensures { (sign : Sign) → result ≡ sized (class_behind (length whole.now) (46 ∷ rest.now)) (number_behind sign whole.now (46 ∷ rest.now)) }
+    requires { AllDigits whole.now }
+    ensures { (sign : Sign) → result
+        ≡ sized (class_behind (length whole.now) (46 ∷ rest.now)) (number_behind sign whole.now (46 ∷ rest.now)) }
 {
     let count = digit_count(rest);
     if whole.len() == 0 && count == 0 {
@@ -79,10 +84,13 @@ fn read_fraction(whole: &[u8], rest: &[u8]) -> Result<u64, RealFault>
 /// The magnitude of a number, of which these are the digits before and behind the point and the text
 /// behind them.
 fn read_end(whole: &[u8], decimals: &[u8], end: &[u8]) -> Result<u64, RealFault>
-    requires whole { All (λ b. IsTrue (is_digit b)) whole.now }
-    requires decimals { All (λ b. IsTrue (is_digit b)) decimals.now }
-    ensures { result ≡ cond (is_exponent end.now) (in_range (nearest (number_of (whole.now ++ decimals.now))
-        (12 + raised_by (exponent_of end.now)) (length decimals.now + lowered_by (exponent_of end.now)))) (Err RealFault.BadReal) }
+    requires whole { AllDigits whole.now }
+    requires decimals { AllDigits decimals.now }
+    ensures { let exponent = exponent_of end.now in
+        let up = 12 + raised_by exponent in
+        let down = length decimals.now + lowered_by exponent in
+        let size = nearest (number_of (whole.now ++ decimals.now)) up down in
+        result ≡ cond (is_exponent end.now) (in_range size) (Err RealFault.BadReal) }
 {
     match end {
         [] => in_range(magnitude(whole, decimals, false, 0)),

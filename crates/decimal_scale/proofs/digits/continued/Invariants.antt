@@ -1,5 +1,5 @@
 use Rattle.std.proofs.Common.{◌≡◌, min, take}
-use Rattle.decimal_scale.specs.Sizes.{past, number_after}
+use Rattle.decimal_scale.specs.Reading.{past, number_after}
 use Rattle.decimal_scale.proofs.digits.continued.Given as goal
 
 abbrev pub invariant-loop-b : goal.invariant-loop-b

@@ -1,7 +1,7 @@
 use Rattle.std.proofs.Common.{◌≡◌, true, ◌-◌, ◌++◌, length, IsTrue, arith}
 use Rattle.std.proofs.lemmas.List.Elements.{recursion_from_All}
 use Rattle.solid_base.specs.Digits.{is_digit, number_of}
-use Rattle.decimal_scale.specs.Sizes.{is_minus}
+use Rattle.decimal_scale.specs.Reading.{is_minus}
 use Rattle.decimal_scale.proofs.Rounding.{divided_some, divided_more}
 use Rattle.decimal_scale.proofs.scaling.magnitude.Goals as goal
 

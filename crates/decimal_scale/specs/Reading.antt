@@ -1,5 +1,7 @@
--- What the steps of reading give: the magnitude of a number in steps, up to the bound.
-use Rattle.std.specs.Prelude.{ℕ, ◌+◌, ◌-◌, ◌*◌, ◌^◌, List, length, fold, Bool, true, false, cond, nat_lt, Option, Some, None, Result, Ok, Err, ℤ}
+-- What a text is read as: the steps of its reading up to the bound, and the magnitudes on the way to them.
+use Rattle.std.specs.Prelude.{ℕ, ◌+◌, ◌-◌, ◌*◌, ◌^◌, List, length, min, fold, IsTrue, Bool, true, false, cond, nat_lt, Option, Some, None, Result, Ok, Err, ℤ}
+use Rattle.std.specs.List.{All}
+use Rattle.solid_base.specs.Digits.{is_digit}
 use Rattle.solid_base.specs.Spelling.{Sign, NoSign, Plus, Minus, Number, decimals_of, sign_of, Spelling, Empty, Whole, Real, class_of, number_of_text}
 use Rattle.solid_base.specs.Decimal.{mantissa_of, raised_by, lowered_by, with_sign, nearest}
 use Rattle.decimal_scale.specs.declared.faults.RealFault.{RealFault}
@@ -12,6 +14,14 @@ past = 10 ^ 18 + 1
 -- digits behind a number
 abbrev pub number_after : ℕ → List ℕ → ℕ
 number_after n digits = fold (λ n b. n * 10 + (b - 48)) n digits
+
+-- each byte is a digit
+abbrev pub AllDigits : List ℕ → Type 0
+AllDigits text = All (λ b. IsTrue (is_digit b)) text
+
+-- the whole number nearest to m * 10 ^ up / 10 ^ down, or `past` where it is larger
+abbrev pub capped : ℕ → ℕ → ℕ → ℕ
+capped m up down = min (nearest m up down) past
 
 -- whether a sign is a minus
 abbrev pub is_minus : Sign → Bool
@@ -40,5 +50,5 @@ signed sign (Ok n) = Ok (with_sign sign n)
 signed sign (Err fault) = Err fault
 
 -- what a text is read as
-unfoldable pub read : List ℕ → Result ℤ RealFault
-read text = signed (sign_of text) (sized (class_of text) (number_of_text text))
+unfoldable pub reading_of : List ℕ → Result ℤ RealFault
+reading_of text = signed (sign_of text) (sized (class_of text) (number_of_text text))
