@@ -1,5 +1,5 @@
 -- The number that digits spell.
-use Rattle.std.proofs.Common.{◌≡◌, ℕ, zero, suc, ◌+◌, ◌-◌, ◌*◌, ◌^◌, ◌<◌, ◌≤◌, List, [], ◌∷◌, ◌++◌, length, fold, IsTrue, arith, ◌∙◌, mul-le-mul}
+use Rattle.std.proofs.Common.{◌≡◌, ℕ, zero, suc, ◌+◌, ◌-◌, ◌*◌, ◌^◌, ◌<◌, ◌≤◌, List, [], ◌∷◌, ◌++◌, length, take, drop, get_or, fold, refl, IsTrue, arith, ◌∙◌, mul-le-mul}
 use Rattle.std.proofs.Math.Nat.{pow-suc}
 use Rattle.std.proofs.lemmas.List.Sums.{fold-append}
 use Rattle.std.proofs.lemmas.Bool.Decides.{nat_tests}
@@ -33,3 +33,23 @@ number_of_less (b ∷ bs) h =
     let d = digit_within b h.0 in
     let m : (b - 48) * 10 ^ length bs ≤ 9 * 10 ^ length bs = mul-le-mul (omega arith) (omega arith) in
     rw (number_of-cons b bs, pow-suc 10 (length bs)) (omega arith)
+
+pub digits_append : (xs ys : List ℕ) → AreDigits xs → AreDigits ys → AreDigits (xs ++ ys)
+digits_append [] ys h k = k
+digits_append (x ∷ xs) ys h k = (h.0, digits_append xs ys h.1 k)
+
+pub digits_drop : (k : ℕ) (xs : List ℕ) → AreDigits xs → AreDigits (drop k xs)
+digits_drop zero xs h = h
+digits_drop (suc k) [] h = tt
+digits_drop (suc k) (x ∷ xs) h = digits_drop k xs h.1
+
+pub digits_take : (k : ℕ) (xs : List ℕ) → AreDigits xs → AreDigits (take k xs)
+digits_take zero xs h = tt
+digits_take (suc k) [] h = tt
+digits_take (suc k) (x ∷ xs) h = (h.0, digits_take k xs h.1)
+
+pub number_of_zeros : (xs : List ℕ) → ((k : ℕ) → k < length xs → get_or xs k 0 ≡ 48) → number_of xs ≡ 0
+number_of_zeros [] h = refl
+number_of_zeros (x ∷ xs) h =
+    let first : x ≡ 48 = h 0 (omega arith) in
+    rw (number_of-cons x xs, first, number_of_zeros xs (λ k l. h (suc k) (omega arith))) (omega arith)

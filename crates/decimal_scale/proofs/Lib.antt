@@ -1,0 +1,5 @@
+pub mod Powers
+pub mod Rounding
+pub mod Readings
+pub mod Texts
+pub mod ReadingBack

@@ -1,0 +1,17 @@
+//! Reals as steps of 10^-12 units: reading their spellings, and writing them.
+//! Contracts see a text as the list of its bytes. What is read compares two exact products, and what
+//! is written is the exact text.
+#![tactic(auto)]
+
+mod digits;
+mod faults;
+mod reading;
+mod scaling;
+mod writing;
+
+pub use faults::RealFault;
+pub use reading::read_real;
+pub use writing::write_real;
+
+#[cfg(test)]
+mod tests;
