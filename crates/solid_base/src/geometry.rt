@@ -7,7 +7,7 @@ pub struct Vec3 {
 }
 
 /// A map of space: an input is multiplied by the three rows, in steps, and then moved by the shift
-/// (IGES 5.3, 4.21, type 124).
+/// (IGES 5.3, type 124).
 #[derive(Clone, Copy, Debug, PartialEq, Eq)]
 pub struct Affine {
     pub row1: Vec3,

@@ -1,7 +1,7 @@
 use crate::geometry::{Affine, Vec3};
 use crate::lists::{Bytes, List};
 
-/// A primitive solid (IGES 5.3, 4.35 to 4.41, types 150 to 168). Lengths, places and directions in steps.
+/// A primitive solid (IGES 5.3, types 150 to 160 and 168). Lengths, places and directions in steps.
 #[derive(Clone, Copy, Debug, PartialEq, Eq)]
 pub enum Prim {
     /// Type 150: lengths along the local axes, the corner, the local X axis `u` and Z axis `w`.
@@ -55,7 +55,7 @@ pub enum Prim {
     },
 }
 
-/// One item of a Boolean tree in post-order (IGES 5.3, 4.43, type 180).
+/// One item of a Boolean tree in post-order (IGES 5.3, type 180).
 #[derive(Clone, Copy, Debug, PartialEq, Eq)]
 pub enum Item {
     Operand(u32),
@@ -67,7 +67,7 @@ pub enum Item {
 /// The items of a Boolean tree, in order.
 pub type Items = List<Item>;
 
-/// An item of an assembly and the matrix that places it, 0 for none (IGES 5.3, 4.45, type 184).
+/// An item of an assembly and the matrix that places it, 0 for none (IGES 5.3, type 184).
 #[derive(Clone, Copy, Debug, PartialEq, Eq)]
 pub struct Placed {
     pub item: u32,
