@@ -1,1 +1,14 @@
+pub mod AnswerLaws
+pub mod FileLaws
+pub mod FormLaws
+pub mod NearLaws
+pub mod Numbers
+pub mod PlainLaws
+pub mod PointLaws
 pub mod Reading
+pub mod ReadingLaws
+pub mod ReplayLaws
+pub mod RunLaws
+pub mod SeriesLaws
+pub mod StepLaws
+pub mod Strips

@@ -1,0 +1,29 @@
+-- How a text is read from its front: each step gives what was read and the bytes behind it, or nothing.
+use Rattle.std.specs.Prelude.{◌≡◌, ℕ, List, [], ◌∷◌, cond, ◌==◌, Option, None, Some}
+
+infixl 10 ◌>>=◌
+-- a step, and then the next on what it gave
+abbrev pub ◌>>=◌ : {A B : Type 0} → Option A → (A → Option B) → Option B
+None >>= f = None
+(Some x) >>= f = f x
+
+-- what a function returned, seen by view, is what reading gives
+abbrev pub Gives : {X Y : Type 0} → (X → Y) → Option X → Option Y → Type 0
+Gives view None read = read ≡ None
+Gives view (Some x) read = read ≡ Some (view x)
+
+-- the bytes behind a text that stands in front
+unfoldable pub strip : List ℕ → List ℕ → Option (List ℕ)
+strip [] bytes = Some bytes
+strip (t ∷ ts) [] = None
+strip (t ∷ ts) (b ∷ bs) = cond (t == b) (strip ts bs) None
+
+-- the bytes behind several texts, one after the other
+abbrev pub strip_all : List (List ℕ) → List ℕ → Option (List ℕ)
+strip_all [] bytes = Some bytes
+strip_all (text ∷ texts) bytes = strip text bytes >>= λ rest. strip_all texts rest
+
+-- the bytes before the first stop, and those behind it
+unfoldable pub cut : ℕ → List ℕ → Option (List ℕ × List ℕ)
+cut stop [] = None
+cut stop (b ∷ bs) = cond (b == stop) (Some ([], bs)) (cut stop bs >>= λ found. Some (b ∷ found.0, found.1))

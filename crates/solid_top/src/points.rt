@@ -1,0 +1,61 @@
+ghost use Rattle.std.specs.Prelude.{◌≡◌, IfSome};
+ghost use Rattle.solid_base.specs.Range.{far, IsWithin, IsPointWithin};
+ghost use Rattle.solid_top.specs.FormReading.{coordinate_at, place_at, entity_number_at, point_at};
+ghost use Rattle.solid_top.specs.Reading.{Gives};
+
+use crate::plain_numbers::{Point, are_digits, number_in, plain};
+use crate::questions::PointQuestion;
+use crate::scan::{cut, text};
+use solid_base::Vec3;
+
+/// A coordinate in front, and the bytes behind the byte that ends it.
+#[tactic(auto, unfolding(crate::specs::FormReading::coordinate_at))]
+pub fn coordinate(rule: Point, stop: u8, bytes: &[u8]) -> Option<(i128, &[u8])>
+    ensures value { Gives (λ found. (found.0, found.1.now)) result (coordinate_at rule stop bytes.now) }
+    ensures within { IfSome result (λ found. IsWithin far found.0) }
+{
+    let (number, rest) = cut(stop, bytes)?;
+    let steps = plain(rule, number)?;
+    Some((steps, rest))
+}
+
+/// Three coordinates in front, and the bytes behind them.
+#[tactic(auto, unfolding(crate::specs::FormReading::place_at))]
+pub fn place(rule: Point, between: u8, behind: u8, bytes: &[u8]) -> Option<(Vec3, &[u8])>
+    ensures value { Gives (λ found. (found.0, found.1.now)) result (place_at rule between behind bytes.now) }
+    ensures within { IfSome result (λ found. IsPointWithin far found.0) }
+{
+    let (x, rest) = coordinate(rule, between, bytes)?;
+    let (y, rest) = coordinate(rule, between, rest)?;
+    let (z, rest) = coordinate(rule, behind, rest)?;
+    Some((Vec3 { x, y, z }, rest))
+}
+
+/// The number of an entity that is the whole text.
+#[tactic(auto, unfolding(crate::specs::FormReading::entity_number_at))]
+fn entity_number(text: &[u8]) -> Option<u32>
+    ensures { Gives (λ number. number) result (entity_number_at text.now) }
+{
+    if !are_digits(text) || text.is_empty() || text.len() > 9 {
+        return None;
+    }
+    let number = number_in(text);
+    if number == 0 {
+        None
+    } else {
+        Some(number as u32)
+    }
+}
+
+/// The line of a point in front, and the bytes behind it.
+#[tactic(auto, unfolding(crate::specs::FormReading::point_at))]
+pub fn point_line(bytes: &[u8]) -> Option<(PointQuestion, &[u8])>
+    ensures value { Gives (λ found. (found.0, found.1.now)) result (point_at bytes.now) }
+    ensures within { IfSome result (λ found. IsPointWithin far found.0.at) }
+{
+    let rest = text(b"@1 point ", bytes)?;
+    let (number, rest) = cut(b' ', rest)?;
+    let entity = entity_number(number)?;
+    let (at, rest) = place(Point::Optional, b' ', b'\n', rest)?;
+    Some((PointQuestion { entity, at }, rest))
+}
