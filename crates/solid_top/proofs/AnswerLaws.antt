@@ -71,5 +71,5 @@ pub point_shorter : (bytes rest : List ℕ) (question : PointQuestion) → point
 point_shorter bytes rest question e =
     let (line, is, front) = point_takes 0 bytes rest question e in
     let whole : length bytes ≡ length line + length rest = ap (length {A = ℕ}) front ∙ length-append line rest in
-    let some : length line ≡ length (codes "@1 point ") + length (is.entity_text ++ 32 ∷ is.place_text) = ap (length {A = ℕ}) is.spelt ∙ length-append (codes "@1 point ") (is.entity_text ++ 32 ∷ is.place_text) in
+    let some : length line ≡ length (codes "@1 point ") + length (is.entity_text ++ 32 ∷ is.position_text) = ap (length {A = ℕ}) is.spelt ∙ length-append (codes "@1 point ") (is.entity_text ++ 32 ∷ is.position_text) in
     omega arith

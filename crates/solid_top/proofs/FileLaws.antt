@@ -4,13 +4,13 @@ use Rattle.std.specs.List.{list_all, AllByRecursion, concat}
 use Rattle.std.proofs.lemmas.List.{take-append-drop, length-replicate}
 use Rattle.std.proofs.Math.Seq.{take-append_seam, drop-append_seam}
 use Rattle.solid_base.proofs.Ring.{code}
-use Rattle.solid_top.specs.declared.plain_numbers.Point.TheVariants as point
+use Rattle.solid_top.specs.declared.plain_numbers.DecimalPoint.TheVariants as point
 use Rattle.solid_top.specs.declared.spheres.Sphere.{Sphere}
 use Rattle.solid_top.specs.Columns.{blanks}
 use Rattle.solid_top.specs.FirstForm.{line_end, parameter_end, first_directory_line, second_directory_line, directory_pair, IsStartLine, IsSphereRecord, IsParameterLine}
-use Rattle.solid_top.specs.FormReading.{coordinate_at, place_at, sphere_at, parameter_line_at, start_line_at, pair_at}
+use Rattle.solid_top.specs.FormReading.{delimited_at, position_at, sphere_at, parameter_line_at, start_line_at, pair_at}
 use Rattle.solid_top.specs.Reading.{◌>>=◌, strip, strip_all}
-use Rattle.solid_top.proofs.PointLaws.{IsStop, coordinate_again, coordinate_takes, place_again, place_takes}
+use Rattle.solid_top.proofs.PointLaws.{IsStop, delimited_again, delimited_takes, position_again, position_takes}
 use Rattle.solid_top.proofs.SeriesLaws.{IsReader}
 use Rattle.solid_top.proofs.Strips.{strip_again, strip_takes, strip_all-concat, strip-append}
 use Rattle.solid_top.proofs.StepLaws.{both, turned, passed, not_stopped, both_gave, same_pair, test_same, test_other, test_not, at_least, not_lt_test, bind-more}
@@ -55,8 +55,8 @@ above_test r h = grind (arith, code)
 test_above : (r : ℤ) → int_lt (pos 0) r ≡ true → pos 0 <ℤ r
 test_above r h = grind (arith, code)
 
-sphere_steps : (bytes behind centre rest : List ℕ) (sphere : Sphere) → strip (codes "158,") bytes ≡ Some behind → coordinate_at point.Required 44 behind ≡ Some (sphere.r, centre)
-    → place_at point.Required 44 59 centre ≡ Some (sphere.centre, rest) → int_lt (pos 0) sphere.r ≡ true → sphere_at bytes ≡ Some (sphere, rest)
+sphere_steps : (bytes behind centre rest : List ℕ) (sphere : Sphere) → strip (codes "158,") bytes ≡ Some behind → delimited_at point.Required 44 behind ≡ Some (sphere.r, centre)
+    → position_at point.Required 44 59 centre ≡ Some (sphere.centre, rest) → int_lt (pos 0) sphere.r ≡ true → sphere_at bytes ≡ Some (sphere, rest)
 unfolding sphere_at
 sphere_steps bytes behind centre rest sphere a b c d = rw (a, b, c, d) refl
 
@@ -66,21 +66,21 @@ sphere_again text rest sphere h =
     let behind = h.radius_text ++ (h.centre_text ++ rest) in
     let whole : text ++ rest ≡ word ++ behind = ap (λ t. t ++ rest) h.spelt ∙ append_assoc word (h.radius_text ++ h.centre_text) rest ∙ ap (λ t. word ++ t) (append_assoc h.radius_text h.centre_text rest) in
     ap sphere_at whole ∙ sphere_steps (word ++ behind) behind (h.centre_text ++ rest) rest sphere (strip_again word behind)
-    (coordinate_again point.Required 44 h.radius_text (h.centre_text ++ rest) sphere.r comma_stop h.radius)
-    (place_again point.Required 44 59 h.centre_text rest sphere.centre comma_stop semi_stop h.centre) (above_test sphere.r h.above)
+    (delimited_again point.Required 44 h.radius_text (h.centre_text ++ rest) sphere.r comma_stop h.radius)
+    (position_again point.Required 44 59 h.centre_text rest sphere.centre comma_stop semi_stop h.centre) (above_test sphere.r h.above)
 
 sphere_takes : (bytes rest : List ℕ) (sphere : Sphere) → sphere_at bytes ≡ Some (sphere, rest) → (text : List ℕ) × IsSphereRecord text sphere × (bytes ≡ text ++ rest)
 unfolding sphere_at
 sphere_takes bytes rest sphere h =
     let (a, f, h1) = both_gave (strip (codes "158,") bytes)
-    (λ rest. coordinate_at point.Required 44 rest >>= λ radius. place_at point.Required 44 59 radius.1 >>= λ centre. cond (int_lt (pos 0) radius.0) (Some (record { r = radius.0; centre = centre.0 }, centre.1)) None) (sphere, rest) h in
-    let (r, g, h2) = both_gave (coordinate_at point.Required 44 a)
-    (λ radius. place_at point.Required 44 59 radius.1 >>= λ centre. cond (int_lt (pos 0) radius.0) (Some (record { r = radius.0; centre = centre.0 }, centre.1)) None) (sphere, rest) h1 in
-    let (p, k, h3) = both_gave (place_at point.Required 44 59 r.1) (λ centre. cond (int_lt (pos 0) r.0) (Some (record { r = r.0; centre = centre.0 }, centre.1)) None) (sphere, rest) h2 in
+    (λ rest. delimited_at point.Required 44 rest >>= λ radius. position_at point.Required 44 59 radius.1 >>= λ centre. cond (int_lt (pos 0) radius.0) (Some (record { r = radius.0; centre = centre.0 }, centre.1)) None) (sphere, rest) h in
+    let (r, g, h2) = both_gave (delimited_at point.Required 44 a)
+    (λ radius. position_at point.Required 44 59 radius.1 >>= λ centre. cond (int_lt (pos 0) radius.0) (Some (record { r = radius.0; centre = centre.0 }, centre.1)) None) (sphere, rest) h1 in
+    let (p, k, h3) = both_gave (position_at point.Required 44 59 r.1) (λ centre. cond (int_lt (pos 0) r.0) (Some (record { r = r.0; centre = centre.0 }, centre.1)) None) (sphere, rest) h2 in
     let (test, is) = passed (int_lt (pos 0) r.0) (Some (record { r = r.0; centre = p.0 }, p.1)) (sphere, rest) h3 in
     let (same, end) = same_pair (record { r = r.0; centre = p.0 }) sphere p.1 rest is in
-    let (rt, rh, re) = coordinate_takes point.Required 44 a r.1 r.0 g in
-    let (ct, ch, ce) = place_takes point.Required 44 59 r.1 p.1 p.0 k in (
+    let (rt, rh, re) = delimited_takes point.Required 44 a r.1 r.0 g in
+    let (ct, ch, ce) = position_takes point.Required 44 59 r.1 p.1 p.0 k in (
       codes "158," ++ (rt ++ ct),
       subst (λ (s : Sphere). IsSphereRecord (codes "158," ++ (rt ++ ct)) s) same (record { radius_text = rt; centre_text = ct; radius = rh; centre = ch; above = test_above r.0 test; spelt = refl }),
       strip_takes (codes "158,") bytes a f ∙ ap (λ t. codes "158," ++ t) (re ∙ ap (λ t. rt ++ t) (ce ∙ ap (λ t. ct ++ t) end) ∙ sym (append_assoc rt ct rest)) ∙ sym (append_assoc (codes "158,") (rt ++ ct) rest),

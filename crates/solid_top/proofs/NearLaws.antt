@@ -3,12 +3,12 @@ use Rattle.std.proofs.Common.{◌≡◌, ℕ, zero, suc, ◌≤◌, ◌%◌, ◌
 use Rattle.solid_base.proofs.Ring.{code}
 use Rattle.solid_base.specs.Range.{far, IsWithin}
 use Rattle.solid_top.specs.Answers.{row_of}
-use Rattle.solid_top.specs.declared.plain_numbers.Point.{Point}
+use Rattle.solid_top.specs.declared.plain_numbers.DecimalPoint.{DecimalPoint}
 use Rattle.solid_top.specs.declared.spheres.Sphere.{Sphere}
 use Rattle.solid_top.specs.FirstForm.{IsSphereRecord, IsParameterLine, IsFile}
 use Rattle.solid_top.specs.Near.{IsNearSphere, AreNear}
 use Rattle.solid_top.specs.PlainNumbers.{magnitude, signed}
-use Rattle.solid_top.specs.Points.{IsCoordinate}
+use Rattle.solid_top.specs.Points.{IsDelimited}
 use Rattle.solid_top.specs.Series.{Spells}
 
 item_near : (spheres : List Sphere) (place : ℕ) (sphere : Sphere) → AreNear spheres → slice_get spheres place ≡ Some sphere → IsNearSphere sphere
@@ -30,20 +30,20 @@ signed_within : (minus : Bool) (m : ℕ) → m ≤ far → IsWithin far (signed 
 signed_within true m h = (omega (arith, code), omega (arith, code))
 signed_within false m h = (omega (arith, code), omega (arith, code))
 
-coordinate_within : (rule : Point) (stop : ℕ) (text : List ℕ) (steps : ℤ) → IsCoordinate rule stop text steps → IsWithin far steps
-coordinate_within rule stop text steps h =
+delimited_within : (rule : DecimalPoint) (stop : ℕ) (text : List ℕ) (steps : ℤ) → IsDelimited rule stop text steps → IsWithin far steps
+delimited_within rule stop text steps h =
     let plain = h.plain in
     subst (λ (z : ℤ). IsWithin far z) (sym plain.value) (signed_within plain.number.minus (magnitude plain.number) plain.near)
 
 record_near : (text : List ℕ) (sphere : Sphere) → IsSphereRecord text sphere → IsNearSphere sphere
 record_near text sphere h =
     let p = h.centre in
-    let radius = coordinate_within _ _ _ _ h.radius in
+    let radius = delimited_within _ _ _ _ h.radius in
     let above = h.above in
     record {
       above = omega (arith, code);
       radius = radius.1;
-      centre = (coordinate_within _ _ _ _ p.x, coordinate_within _ _ _ _ p.y, coordinate_within _ _ _ _ p.z);
+      centre = (delimited_within _ _ _ _ p.x, delimited_within _ _ _ _ p.y, delimited_within _ _ _ _ p.z);
     }
 
 spells_near : (place : ℕ) (text : List ℕ) (spheres : List Sphere) → Spells IsParameterLine place text spheres → AreNear spheres

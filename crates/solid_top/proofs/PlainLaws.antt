@@ -5,8 +5,8 @@ use Rattle.std.proofs.lemmas.List.{take-append-drop}
 use Rattle.std.proofs.Math.Seq.{take-append_seam, drop-append_seam}
 use Rattle.solid_base.specs.Digits.{is_digit, AreDigits}
 use Rattle.solid_base.specs.Range.{far}
-use Rattle.solid_top.specs.declared.plain_numbers.Point.{Point}
-use Rattle.solid_top.specs.declared.plain_numbers.Point.TheVariants as point
+use Rattle.solid_top.specs.declared.plain_numbers.DecimalPoint.{DecimalPoint}
+use Rattle.solid_top.specs.declared.plain_numbers.DecimalPoint.TheVariants as point
 use Rattle.solid_top.specs.PlainNumbers.{PlainNumber, HasDigits, HasPoint, IsPlain, plain_text, sign_text, decimals_text, magnitude, signed}
 use Rattle.solid_top.specs.PlainReading.{are_decimals, behind_whole, behind_sign, parts_at, has_point, plain_at}
 use Rattle.solid_top.proofs.StepLaws.{both, turned, le_test, test_le, test_same, passed, both_gave}
@@ -133,22 +133,22 @@ parts_again n h = again n.minus n.whole n.decimals h.some h.whole h.decimals h.t
 
 -- ---- the steps
 
-point_test : (rule : Point) (n : PlainNumber) → HasPoint rule n → has_point rule n ≡ true
+point_test : (rule : DecimalPoint) (n : PlainNumber) → HasPoint rule n → has_point rule n ≡ true
 point_test point.Optional n h = refl
 point_test point.Required n h = grind arith
 
-test_point : (rule : Point) (n : PlainNumber) → has_point rule n ≡ true → HasPoint rule n
+test_point : (rule : DecimalPoint) (n : PlainNumber) → has_point rule n ≡ true → HasPoint rule n
 test_point point.Optional n h = tt
 test_point point.Required n h = grind arith
 
-pub plain_again : (rule : Point) (text : List ℕ) (steps : ℤ) → IsPlain rule text steps → plain_at rule text ≡ Some steps
+pub plain_again : (rule : DecimalPoint) (text : List ℕ) (steps : ℤ) → IsPlain rule text steps → plain_at rule text ≡ Some steps
 unfolding plain_at
 plain_again rule text steps h =
     let n = h.number in
     let near : nat_le (magnitude n) far ≡ true = le_test (magnitude n) far h.near in
     rw (h.spelt, parts_again n h.digits, point_test rule n h.point, near, h.value) refl
 
-pub plain_takes : (rule : Point) (text : List ℕ) (steps : ℤ) → plain_at rule text ≡ Some steps → IsPlain rule text steps
+pub plain_takes : (rule : DecimalPoint) (text : List ℕ) (steps : ℤ) → plain_at rule text ≡ Some steps → IsPlain rule text steps
 unfolding plain_at
 plain_takes rule text steps e =
     let (n, read, rest) = both_gave (parts_at text) (λ n. cond (has_point rule n && nat_le (magnitude n) far) (Some (signed n.minus (magnitude n))) None) steps e in

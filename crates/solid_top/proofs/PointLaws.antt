@@ -3,13 +3,13 @@ use Rattle.std.proofs.Common.{◌≡◌, ◌≢◌, ℕ, ◌<◌, ◌≤◌, Lis
 use Rattle.std.specs.List.{list_all, AllByRecursion}
 use Rattle.solid_base.specs.declared.geometry.Vec3.{Vec3}
 use Rattle.solid_base.specs.Digits.{is_digit, number_of, AreDigits}
-use Rattle.solid_top.specs.declared.plain_numbers.Point.{Point}
-use Rattle.solid_top.specs.declared.plain_numbers.Point.TheVariants as point
+use Rattle.solid_top.specs.declared.plain_numbers.DecimalPoint.{DecimalPoint}
+use Rattle.solid_top.specs.declared.plain_numbers.DecimalPoint.TheVariants as point
 use Rattle.solid_top.specs.declared.questions.PointQuestion.{PointQuestion}
-use Rattle.solid_top.specs.FormReading.{coordinate_at, place_at, entity_number_at, point_at}
+use Rattle.solid_top.specs.FormReading.{delimited_at, position_at, entity_number_at, point_at}
 use Rattle.solid_top.specs.PlainNumbers.{IsPlain, sign_text, decimals_text}
 use Rattle.solid_top.specs.PlainReading.{plain_at}
-use Rattle.solid_top.specs.Points.{IsCoordinate, IsPlace, IsEntityNumber, IsPointLine}
+use Rattle.solid_top.specs.Points.{IsDelimited, IsPosition, IsEntityNumber, IsPointLine}
 use Rattle.solid_top.specs.Reading.{◌>>=◌, strip, cut}
 use Rattle.solid_top.proofs.PlainLaws.{all_test, test_all, plain_again, plain_takes}
 use Rattle.solid_top.proofs.SeriesLaws.{IsReader}
@@ -48,7 +48,7 @@ decimals_free : (stop : ℕ) (ds : List ℕ) → IsStop stop → AreDigits ds �
 decimals_free stop [] s h = tt
 decimals_free stop (d ∷ ds) s h = (s.point, digits_free stop (d ∷ ds) s.digit h)
 
-plain_free : (stop : ℕ) (rule : Point) (text : List ℕ) (steps : ℤ) → IsStop stop → IsPlain rule text steps → AllByRecursion (λ b. b ≢ stop) text
+plain_free : (stop : ℕ) (rule : DecimalPoint) (text : List ℕ) (steps : ℤ) → IsStop stop → IsPlain rule text steps → AllByRecursion (λ b. b ≢ stop) text
 plain_free stop rule text steps s h =
     let n = h.number in
     subst (λ t. AllByRecursion (λ b. b ≢ stop) t) (sym h.spelt)
@@ -57,17 +57,17 @@ plain_free stop rule text steps s h =
 
 -- ---- coordinates
 
-pub coordinate_again : (rule : Point) (stop : ℕ) (text rest : List ℕ) (steps : ℤ) → IsStop stop → IsCoordinate rule stop text steps → coordinate_at rule stop (text ++ rest) ≡ Some (steps, rest)
-unfolding coordinate_at
-coordinate_again rule stop text rest steps s h =
+pub delimited_again : (rule : DecimalPoint) (stop : ℕ) (text rest : List ℕ) (steps : ℤ) → IsStop stop → IsDelimited rule stop text steps → delimited_at rule stop (text ++ rest) ≡ Some (steps, rest)
+unfolding delimited_at
+delimited_again rule stop text rest steps s h =
     let whole : text ++ rest ≡ h.number ++ stop ∷ rest = ap (λ t. t ++ rest) h.spelt ∙ append_assoc h.number (stop ∷ []) rest in
     let found = cut_again stop h.number rest (plain_free stop rule h.number steps s h.plain) in
     rw (whole, found, plain_again rule h.number steps h.plain) refl
 
-pub coordinate_takes : (rule : Point) (stop : ℕ) (bytes rest : List ℕ) (steps : ℤ) → coordinate_at rule stop bytes ≡ Some (steps, rest)
-    → (text : List ℕ) × IsCoordinate rule stop text steps × (bytes ≡ text ++ rest)
-unfolding coordinate_at
-coordinate_takes rule stop bytes rest steps h =
+pub delimited_takes : (rule : DecimalPoint) (stop : ℕ) (bytes rest : List ℕ) (steps : ℤ) → delimited_at rule stop bytes ≡ Some (steps, rest)
+    → (text : List ℕ) × IsDelimited rule stop text steps × (bytes ≡ text ++ rest)
+unfolding delimited_at
+delimited_takes rule stop bytes rest steps h =
     let (found, c, g) = both_gave (cut stop bytes) (λ found. plain_at rule found.0 >>= λ n. Some (n, found.1)) (steps, rest) h in
     let (n, p, k) = both_gave (plain_at rule found.0) (λ n. Some (n, found.1)) (steps, rest) g in
     let (value, behind) = same_pair n steps found.1 rest k in
@@ -78,27 +78,27 @@ coordinate_takes rule stop bytes rest steps h =
       front ∙ sym (append_assoc found.0 (stop ∷ []) found.1) ∙ ap (λ r. (found.0 ++ stop ∷ []) ++ r) behind,
     )
 
-pub place_again : (rule : Point) (between behind : ℕ) (text rest : List ℕ) (at : Vec3) → IsStop between → IsStop behind → IsPlace rule between behind text at
-    → place_at rule between behind (text ++ rest) ≡ Some (at, rest)
-unfolding place_at
-place_again rule between behind text rest at b s h =
+pub position_again : (rule : DecimalPoint) (between behind : ℕ) (text rest : List ℕ) (at : Vec3) → IsStop between → IsStop behind → IsPosition rule between behind text at
+    → position_at rule between behind (text ++ rest) ≡ Some (at, rest)
+unfolding position_at
+position_again rule between behind text rest at b s h =
     let whole : text ++ rest ≡ h.x_text ++ (h.y_text ++ (h.z_text ++ rest)) = ap (λ t. t ++ rest) h.spelt ∙ simp append_assoc in
-    rw (whole, coordinate_again rule between h.x_text (h.y_text ++ (h.z_text ++ rest)) at.x b h.x, coordinate_again rule between h.y_text (h.z_text ++ rest) at.y b h.y, coordinate_again rule behind h.z_text rest at.z s h.z) refl
+    rw (whole, delimited_again rule between h.x_text (h.y_text ++ (h.z_text ++ rest)) at.x b h.x, delimited_again rule between h.y_text (h.z_text ++ rest) at.y b h.y, delimited_again rule behind h.z_text rest at.z s h.z) refl
 
-pub place_takes : (rule : Point) (between behind : ℕ) (bytes rest : List ℕ) (at : Vec3) → place_at rule between behind bytes ≡ Some (at, rest)
-    → (text : List ℕ) × IsPlace rule between behind text at × (bytes ≡ text ++ rest)
-unfolding place_at
-place_takes rule between behind bytes rest at h =
-    let (x, f, h1) = both_gave (coordinate_at rule between bytes)
-    (λ x. coordinate_at rule between x.1 >>= λ y. coordinate_at rule behind y.1 >>= λ z. Some (record { x = x.0; y = y.0; z = z.0 }, z.1)) (at, rest) h in
-    let (y, g, h2) = both_gave (coordinate_at rule between x.1) (λ y. coordinate_at rule behind y.1 >>= λ z. Some (record { x = x.0; y = y.0; z = z.0 }, z.1)) (at, rest) h1 in
-    let (z, k, h3) = both_gave (coordinate_at rule behind y.1) (λ z. Some (record { x = x.0; y = y.0; z = z.0 }, z.1)) (at, rest) h2 in
+pub position_takes : (rule : DecimalPoint) (between behind : ℕ) (bytes rest : List ℕ) (at : Vec3) → position_at rule between behind bytes ≡ Some (at, rest)
+    → (text : List ℕ) × IsPosition rule between behind text at × (bytes ≡ text ++ rest)
+unfolding position_at
+position_takes rule between behind bytes rest at h =
+    let (x, f, h1) = both_gave (delimited_at rule between bytes)
+    (λ x. delimited_at rule between x.1 >>= λ y. delimited_at rule behind y.1 >>= λ z. Some (record { x = x.0; y = y.0; z = z.0 }, z.1)) (at, rest) h in
+    let (y, g, h2) = both_gave (delimited_at rule between x.1) (λ y. delimited_at rule behind y.1 >>= λ z. Some (record { x = x.0; y = y.0; z = z.0 }, z.1)) (at, rest) h1 in
+    let (z, k, h3) = both_gave (delimited_at rule behind y.1) (λ z. Some (record { x = x.0; y = y.0; z = z.0 }, z.1)) (at, rest) h2 in
     let (same, end) = same_pair (record { x = x.0; y = y.0; z = z.0 }) at z.1 rest h3 in
-    let (xt, xh, xe) = coordinate_takes rule between bytes x.1 x.0 f in
-    let (yt, yh, ye) = coordinate_takes rule between x.1 y.1 y.0 g in
-    let (zt, zh, ze) = coordinate_takes rule behind y.1 z.1 z.0 k in (
+    let (xt, xh, xe) = delimited_takes rule between bytes x.1 x.0 f in
+    let (yt, yh, ye) = delimited_takes rule between x.1 y.1 y.0 g in
+    let (zt, zh, ze) = delimited_takes rule behind y.1 z.1 z.0 k in (
       xt ++ (yt ++ zt),
-      subst (λ (p : Vec3). IsPlace rule between behind (xt ++ (yt ++ zt)) p) same (record { x_text = xt; y_text = yt; z_text = zt; x = xh; y = yh; z = zh; spelt = refl }),
+      subst (λ (p : Vec3). IsPosition rule between behind (xt ++ (yt ++ zt)) p) same (record { x_text = xt; y_text = yt; z_text = zt; x = xh; y = yh; z = zh; spelt = refl }),
       xe ∙ ap (λ t. xt ++ t) (ye ∙ ap (λ t. yt ++ t) (ze ∙ ap (λ t. zt ++ t) end)) ∙ simp append_assoc,
     )
 
@@ -125,7 +125,7 @@ entity_takes text n e =
 
 -- a point line from what each of its steps gives
 point_steps : (bytes behind rest number place : List ℕ) (question : PointQuestion) → strip (codes "@1 point ") bytes ≡ Some behind → cut 32 behind ≡ Some (number, place)
-    → entity_number_at number ≡ Some question.entity → place_at point.Optional 32 10 place ≡ Some (question.at, rest) → point_at bytes ≡ Some (question, rest)
+    → entity_number_at number ≡ Some question.entity → position_at point.Optional 32 10 place ≡ Some (question.at, rest) → point_at bytes ≡ Some (question, rest)
 unfolding point_at
 point_steps bytes behind rest number place question a b c d = rw (a, b, c, d) refl
 
@@ -138,27 +138,27 @@ end_stop = record { digit = refl; minus = omega arith; point = omega arith }
 pub point_again : (index : ℕ) (line rest : List ℕ) (question : PointQuestion) → IsPointLine index line question → point_at (line ++ rest) ≡ Some (question, rest)
 point_again index line rest question h =
     let word = codes "@1 point " in
-    let behind = h.entity_text ++ 32 ∷ (h.place_text ++ rest) in
-    let whole : line ++ rest ≡ word ++ behind = ap (λ t. t ++ rest) h.spelt ∙ append_assoc word (h.entity_text ++ 32 ∷ h.place_text) rest ∙ ap (λ t. word ++ t) (append_assoc h.entity_text (32 ∷ h.place_text) rest) in
-    let found = cut_again 32 h.entity_text (h.place_text ++ rest) (digits_free 32 h.entity_text refl h.entity.digits) in
-    ap point_at whole ∙ point_steps (word ++ behind) behind rest h.entity_text (h.place_text ++ rest) question (strip_again word behind) found (entity_again h.entity_text question.entity h.entity)
-    (place_again point.Optional 32 10 h.place_text rest question.at blank_stop end_stop h.place)
+    let behind = h.entity_text ++ 32 ∷ (h.position_text ++ rest) in
+    let whole : line ++ rest ≡ word ++ behind = ap (λ t. t ++ rest) h.spelt ∙ append_assoc word (h.entity_text ++ 32 ∷ h.position_text) rest ∙ ap (λ t. word ++ t) (append_assoc h.entity_text (32 ∷ h.position_text) rest) in
+    let found = cut_again 32 h.entity_text (h.position_text ++ rest) (digits_free 32 h.entity_text refl h.entity.digits) in
+    ap point_at whole ∙ point_steps (word ++ behind) behind rest h.entity_text (h.position_text ++ rest) question (strip_again word behind) found (entity_again h.entity_text question.entity h.entity)
+    (position_again point.Optional 32 10 h.position_text rest question.at blank_stop end_stop h.place)
 
 pub point_takes : (index : ℕ) (bytes rest : List ℕ) (question : PointQuestion) → point_at bytes ≡ Some (question, rest) → (line : List ℕ) × IsPointLine index line question × (bytes ≡ line ++ rest)
 unfolding point_at
 point_takes index bytes rest question h =
     let (a, f, h1) = both_gave (strip (codes "@1 point ") bytes)
-    (λ rest. cut 32 rest >>= λ found. entity_number_at found.0 >>= λ entity. place_at point.Optional 32 10 found.1 >>= λ place. Some (record { entity = entity; at = place.0 }, place.1)) (question, rest) h in
+    (λ rest. cut 32 rest >>= λ found. entity_number_at found.0 >>= λ entity. position_at point.Optional 32 10 found.1 >>= λ place. Some (record { entity = entity; at = place.0 }, place.1)) (question, rest) h in
     let (b, g, h2) = both_gave (cut 32 a)
-    (λ found. entity_number_at found.0 >>= λ entity. place_at point.Optional 32 10 found.1 >>= λ place. Some (record { entity = entity; at = place.0 }, place.1)) (question, rest) h1 in
-    let (n, k, h3) = both_gave (entity_number_at b.0) (λ entity. place_at point.Optional 32 10 b.1 >>= λ place. Some (record { entity = entity; at = place.0 }, place.1)) (question, rest) h2 in
-    let (p, l, h4) = both_gave (place_at point.Optional 32 10 b.1) (λ place. Some (record { entity = n; at = place.0 }, place.1)) (question, rest) h3 in
+    (λ found. entity_number_at found.0 >>= λ entity. position_at point.Optional 32 10 found.1 >>= λ place. Some (record { entity = entity; at = place.0 }, place.1)) (question, rest) h1 in
+    let (n, k, h3) = both_gave (entity_number_at b.0) (λ entity. position_at point.Optional 32 10 b.1 >>= λ place. Some (record { entity = entity; at = place.0 }, place.1)) (question, rest) h2 in
+    let (p, l, h4) = both_gave (position_at point.Optional 32 10 b.1) (λ place. Some (record { entity = n; at = place.0 }, place.1)) (question, rest) h3 in
     let (same, end) = same_pair (record { entity = n; at = p.0 }) question p.1 rest h4 in
-    let (text, is, e) = place_takes point.Optional 32 10 b.1 p.1 p.0 l in
+    let (text, is, e) = position_takes point.Optional 32 10 b.1 p.1 p.0 l in
     let line = codes "@1 point " ++ (b.0 ++ 32 ∷ text) in (
       line,
       subst (λ (q : PointQuestion). IsPointLine index line q) same
-          (record { entity_text = b.0; place_text = text; entity = entity_takes b.0 n k; place = is; spelt = refl }),
+          (record { entity_text = b.0; position_text = text; entity = entity_takes b.0 n k; place = is; spelt = refl }),
       strip_takes (codes "@1 point ") bytes a f ∙ ap (λ t. codes "@1 point " ++ t) (cut_takes 32 a b.0 b.1 g ∙ ap (λ t. b.0 ++ 32 ∷ t) (e ∙ ap (λ t. text ++ t) end) ∙ sym (append_assoc b.0 (32 ∷ text) rest))
           ∙ sym (append_assoc (codes "@1 point ") (b.0 ++ 32 ∷ text) rest),
     )

@@ -5,7 +5,7 @@ use Rattle.solid_base.specs.Decimal.{IsNearest, IsReading, mantissa_of, with_sig
 use Rattle.solid_base.specs.Digits.{number_of, AreDigits}
 use Rattle.solid_base.specs.Spelling.{Sign, NoSign, Minus, Number, number_text, sign_text, fraction_text, decimals_of}
 use Rattle.solid_base.proofs.Digits.{number_of-append, ten_positive}
-use Rattle.solid_top.specs.declared.plain_numbers.Point.{Point}
+use Rattle.solid_top.specs.declared.plain_numbers.DecimalPoint.{DecimalPoint}
 use Rattle.solid_top.specs.PlainNumbers.{PlainNumber, HasDigits, IsPlain, decimals_text, plain_text, magnitude, signed}
 use Rattle.solid_top.specs.PlainNumbers.{sign_text as plain_sign}
 
@@ -53,7 +53,7 @@ signed_same true m = refl
 signed_same false m = refl
 
 -- the steps of a plain number are the reading of its text
-pub plain_reading : (rule : Point) (text : List ℕ) (steps : ℤ) → IsPlain rule text steps → IsReading text steps
+pub plain_reading : (rule : DecimalPoint) (text : List ℕ) (steps : ℤ) → IsPlain rule text steps → IsReading text steps
 plain_reading rule text steps h =
     let n = h.number in
     let number : Number = record { sign = sign_from n.minus; whole = n.whole; fraction = fraction_from n.decimals; exponent = None } in

@@ -52,7 +52,7 @@ module _ (words : List (List ℕ)) (left left' : Option (List ℕ)) (reads reads
       → ((result ≡ status.Memory) × Keeps held held') ⊎ ((s : Status) × (text : List ℕ) × IsReplayed bytes s text × Finishes held held' writes writes' s text result) → EndsAs result
   answered bytes result command input h =
       elim h [
-        | inl memory ↦ (let (same, kept) = memory in subst EndsAs (sym same) (command, kept))
+        | inl memory ↦ (let (same, kept) = memory in subst EndsAs (sym same) (command, (bytes, input.read), kept))
         | inr done ↦ (let (s, text, r, f) = done in finished s result text (comes_replayed bytes s text command input r) f)
       ]
 
@@ -115,7 +115,7 @@ module _ (words : List (List ℕ)) (left left' : Option (List ℕ)) (reads reads
   write_caused status.TooLong e same = cc
 
   pub memory_kept : (result : Status) → EndsAs result → result ≡ status.Memory → Keeps held held'
-  memory_kept status.Memory e same = e.1
+  memory_kept status.Memory e same = e.2
   memory_kept status.WriteFault e same = cc
   memory_kept status.Usage e same = cc
   memory_kept status.Done e same = cc
@@ -155,7 +155,7 @@ module _ (words : List (List ℕ)) (left left' : Option (List ℕ)) (reads reads
   Answers bytes result = ((result ≡ status.Memory) × Keeps held held') ⊎ ((text : List ℕ) × IsReplayed bytes result text × Appends held held' text)
 
   replayed : (result : Status) (bytes : List ℕ) → EndsWith result → GoesWell words reads reads' writes writes' → left ≡ Some bytes → length bytes ≤ most_bytes → Answers bytes result
-  replayed status.Memory bytes e well told fits = inl (refl, e.1)
+  replayed status.Memory bytes e well told fits = inl (refl, e.2)
   replayed status.ReadFault bytes e well told fits = absurd (well.reading e.1)
   replayed status.WriteFault bytes e well told fits = absurd (well.writing e.0)
   replayed status.Usage bytes e well told fits = absurd (e.1.0 well.command)
@@ -191,7 +191,7 @@ module _ (words : List (List ℕ)) (left left' : Option (List ℕ)) (reads reads
 
   pub long_written : (result : Status) → EndsWith result → GoesWell words reads reads' writes writes' → (bytes : List ℕ) → left ≡ Some bytes → most_bytes < length bytes
       → IsWritten held held' status.TooLong too_long_text result
-  long_written status.Memory e well bytes told more = inl (refl, e.1)
+  long_written status.Memory e well bytes told more = inl (refl, e.2)
   long_written status.ReadFault e well bytes told more = absurd (well.reading e.1)
   long_written status.WriteFault e well bytes told more = absurd (well.writing e.0)
   long_written status.Usage e well bytes told more = absurd (e.1.0 well.command)

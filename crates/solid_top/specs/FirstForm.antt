@@ -3,11 +3,11 @@
 -- Every line has 80 columns and ends with LF. In these definitions a line is the bytes with its LF.
 use Rattle.std.specs.Prelude.{◌≡◌, ◌≢◌, ◌<◌, ◌≤◌, ℕ, zero, suc, ◌+◌, ◌*◌, ◌-◌, pos, ◌<ℤ◌, List, [], ◌∷◌, ◌++◌, codes, length}
 use Rattle.std.specs.List.{AllByRecursion, concat}
-use Rattle.solid_top.specs.declared.plain_numbers.Point.TheVariants as point
+use Rattle.solid_top.specs.declared.plain_numbers.DecimalPoint.TheVariants as point
 use Rattle.solid_top.specs.declared.questions.PointQuestion.{PointQuestion}
 use Rattle.solid_top.specs.declared.spheres.Sphere.{Sphere}
 use Rattle.solid_top.specs.Columns.{blanks, padded}
-use Rattle.solid_top.specs.Points.{IsCoordinate, IsPlace, IsPointLine}
+use Rattle.solid_top.specs.Points.{IsDelimited, IsPosition, IsPointLine}
 use Rattle.solid_top.specs.Series.{Spells}
 
 -- the end of a line: the section letter in column 73, the sequence number at the right of columns 74 to 80, LF
@@ -45,8 +45,8 @@ directory_text place (suc count) = directory_pair place ++ directory_text (suc p
 pub record IsSphereRecord (text : List ℕ) (sphere : Sphere) : Type 0 where
   pub radius_text : List ℕ
   pub centre_text : List ℕ
-  pub radius : IsCoordinate point.Required 44 radius_text sphere.r
-  pub centre : IsPlace point.Required 44 59 centre_text sphere.centre
+  pub radius : IsDelimited point.Required 44 radius_text sphere.r
+  pub centre : IsPosition point.Required 44 59 centre_text sphere.centre
   pub above : pos 0 <ℤ sphere.r
   pub spelt : text ≡ codes "158," ++ (radius_text ++ centre_text)
 

@@ -4,32 +4,32 @@ use Rattle.std.specs.Prelude.{ℕ, ℤ, pos, int_lt, List, codes, cond, ◌&&◌
 use Rattle.std.specs.List.{list_all}
 use Rattle.solid_base.specs.declared.geometry.Vec3.{Vec3}
 use Rattle.solid_base.specs.Digits.{is_digit, number_of}
-use Rattle.solid_top.specs.declared.plain_numbers.Point.{Point}
-use Rattle.solid_top.specs.declared.plain_numbers.Point.TheVariants as point
+use Rattle.solid_top.specs.declared.plain_numbers.DecimalPoint.{DecimalPoint}
+use Rattle.solid_top.specs.declared.plain_numbers.DecimalPoint.TheVariants as point
 use Rattle.solid_top.specs.declared.questions.PointQuestion.{PointQuestion}
 use Rattle.solid_top.specs.declared.spheres.Sphere.{Sphere}
 use Rattle.solid_top.specs.FirstForm.{line_end, first_directory_line, second_directory_line, parameter_end}
 use Rattle.solid_top.specs.PlainReading.{plain_at}
 use Rattle.solid_top.specs.Reading.{◌>>=◌, strip_all, strip, cut}
 
--- a coordinate in front, and the bytes behind the byte that ends it
-unfoldable pub coordinate_at : Point → ℕ → List ℕ → Option (ℤ × List ℕ)
-coordinate_at rule stop bytes = cut stop bytes >>= λ found. plain_at rule found.0 >>= λ steps. Some (steps, found.1)
+-- a plain number in front, and the bytes behind the byte that ends it
+unfoldable pub delimited_at : DecimalPoint → ℕ → List ℕ → Option (ℤ × List ℕ)
+delimited_at rule stop bytes = cut stop bytes >>= λ found. plain_at rule found.0 >>= λ steps. Some (steps, found.1)
 
-unfoldable pub place_at : Point → ℕ → ℕ → List ℕ → Option (Vec3 × List ℕ)
-place_at rule between behind bytes =
-    coordinate_at rule between bytes >>= λ x. coordinate_at rule between x.1 >>= λ y. coordinate_at rule behind y.1 >>= λ z. Some (record { x = x.0; y = y.0; z = z.0 }, z.1)
+unfoldable pub position_at : DecimalPoint → ℕ → ℕ → List ℕ → Option (Vec3 × List ℕ)
+position_at rule between behind bytes =
+    delimited_at rule between bytes >>= λ x. delimited_at rule between x.1 >>= λ y. delimited_at rule behind y.1 >>= λ z. Some (record { x = x.0; y = y.0; z = z.0 }, z.1)
 
 unfoldable pub entity_number_at : List ℕ → Option ℕ
 entity_number_at text = cond ((list_all is_digit text && (nat_lt 0 (length text) && nat_le (length text) 9)) && nat_lt 0 (number_of text)) (Some (number_of text)) None
 
 unfoldable pub point_at : List ℕ → Option (PointQuestion × List ℕ)
 point_at bytes =
-    strip (codes "@1 point ") bytes >>= λ rest. cut 32 rest >>= λ found. entity_number_at found.0 >>= λ entity. place_at point.Optional 32 10 found.1 >>= λ place. Some (record { entity = entity; at = place.0 }, place.1)
+    strip (codes "@1 point ") bytes >>= λ rest. cut 32 rest >>= λ found. entity_number_at found.0 >>= λ entity. position_at point.Optional 32 10 found.1 >>= λ place. Some (record { entity = entity; at = place.0 }, place.1)
 
 unfoldable pub sphere_at : List ℕ → Option (Sphere × List ℕ)
 sphere_at bytes =
-    strip (codes "158,") bytes >>= λ rest. coordinate_at point.Required 44 rest >>= λ radius. place_at point.Required 44 59 radius.1 >>= λ centre.
+    strip (codes "158,") bytes >>= λ rest. delimited_at point.Required 44 rest >>= λ radius. position_at point.Required 44 59 radius.1 >>= λ centre.
     cond (int_lt (pos 0) radius.0) (Some (record { r = radius.0; centre = centre.0 }, centre.1)) None
 
 -- a line of so many columns in front, by what they hold and what stands behind them

@@ -3,8 +3,8 @@
 use Rattle.std.specs.Prelude.{◌≡◌, ◌<◌, ◌≤◌, ℕ, ◌+◌, ◌*◌, ◌-◌, ◌^◌, ℤ, pos, neg_ℤ, List, [], ◌∷◌, ◌++◌, Bool, true, false, codes, length}
 use Rattle.solid_base.specs.Digits.{AreDigits, number_of}
 use Rattle.solid_base.specs.Range.{far}
-use Rattle.solid_top.specs.declared.plain_numbers.Point.{Point}
-use Rattle.solid_top.specs.declared.plain_numbers.Point.TheVariants as point
+use Rattle.solid_top.specs.declared.plain_numbers.DecimalPoint.{DecimalPoint}
+use Rattle.solid_top.specs.declared.plain_numbers.DecimalPoint.TheVariants as point
 
 -- the parts of a plain number; one without a point has no decimals
 pub record PlainNumber : Type 0 where
@@ -39,12 +39,12 @@ signed true m = neg_ℤ (pos m)
 signed false m = pos m
 
 -- a point is wanted, or may be left out
-abbrev pub HasPoint : Point → PlainNumber → Type 0
+abbrev pub HasPoint : DecimalPoint → PlainNumber → Type 0
 HasPoint point.Optional n = Unit {0}
 HasPoint point.Required n = 0 < length n.decimals
 
 -- a text is a plain number of so many steps
-pub record IsPlain (rule : Point) (text : List ℕ) (steps : ℤ) : Type 0 where
+pub record IsPlain (rule : DecimalPoint) (text : List ℕ) (steps : ℤ) : Type 0 where
   pub number : PlainNumber
   pub digits : HasDigits number
   pub spelt : text ≡ plain_text number

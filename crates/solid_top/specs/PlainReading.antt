@@ -4,8 +4,8 @@ use Rattle.std.specs.Prelude.{ℕ, ℤ, List, [], ◌∷◌, Bool, true, false, 
 use Rattle.std.specs.List.{prefix_len, list_all}
 use Rattle.solid_base.specs.Digits.{is_digit}
 use Rattle.solid_base.specs.Range.{far}
-use Rattle.solid_top.specs.declared.plain_numbers.Point.{Point}
-use Rattle.solid_top.specs.declared.plain_numbers.Point.TheVariants as point
+use Rattle.solid_top.specs.declared.plain_numbers.DecimalPoint.{DecimalPoint}
+use Rattle.solid_top.specs.declared.plain_numbers.DecimalPoint.TheVariants as point
 use Rattle.solid_top.specs.declared.plain_numbers.Parts.{Parts}
 use Rattle.solid_top.specs.PlainNumbers.{PlainNumber, magnitude, signed}
 use Rattle.solid_top.specs.Reading.{◌>>=◌}
@@ -31,10 +31,10 @@ unfoldable pub parts_at : List ℕ → Option PlainNumber
 parts_at [] = None
 parts_at (b ∷ bs) = cond (b == 45) (behind_sign true bs) (behind_sign false (b ∷ bs))
 
-abbrev pub has_point : Point → PlainNumber → Bool
+abbrev pub has_point : DecimalPoint → PlainNumber → Bool
 has_point point.Optional n = true
 has_point point.Required n = nat_lt 0 (length n.decimals)
 
 -- the steps of the plain number that is the whole text
-unfoldable pub plain_at : Point → List ℕ → Option ℤ
+unfoldable pub plain_at : DecimalPoint → List ℕ → Option ℤ
 plain_at rule text = parts_at text >>= λ n. cond (has_point rule n && nat_le (magnitude n) far) (Some (signed n.minus (magnitude n))) None

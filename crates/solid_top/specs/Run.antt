@@ -3,7 +3,7 @@
 -- and after the run, `reads` and `reads'` the counts of failed reads; `held`, `held'`, `writes` and `writes'` the same of the sink.
 use Rattle.std.specs.Prelude.{◌≡◌, ℕ, ◌<◌, ◌≤◌, ◌⊎◌, List, length, Option}
 use Rattle.std.specs.Io.KnownBytes.{Appends, Consumes, IsAtEnd, Keeps}
-use Rattle.solid_io.specs.Causes.{Rose}
+use Rattle.solid_io.specs.Causes.{Rose, SameTold}
 use Rattle.solid_top.specs.declared.statuses.Status.{Status}
 use Rattle.solid_top.specs.declared.statuses.Status.TheVariants as status
 use Rattle.solid_top.specs.Commands.{IsCommand, usage_text, too_long_text}
@@ -39,7 +39,7 @@ Writes words left left' held held' s = (text : List ℕ) × Comes words left lef
 -- how a run ends: where memory was wanting or a read failed nothing is written; after a failed write a front of the text is; else the
 -- whole text of the status
 abbrev pub Ends : List (List ℕ) → Option (List ℕ) → Option (List ℕ) → ℕ → ℕ → Option (List ℕ) → Option (List ℕ) → ℕ → ℕ → Status → Type 0
-Ends words left left' reads reads' held held' writes writes' status.Memory = IsCommand words × Keeps held held'
+Ends words left left' reads reads' held held' writes writes' status.Memory = IsCommand words × ((bytes : List ℕ) × Consumes left left' bytes) × Keeps held held'
 Ends words left left' reads reads' held held' writes writes' status.ReadFault =
     IsCommand words × Rose reads reads' × ((bytes : List ℕ) × (length bytes ≤ most_bytes) × Consumes left left' bytes) × Keeps held held'
 Ends words left left' reads reads' held held' writes writes' status.WriteFault =
@@ -48,6 +48,11 @@ Ends words left left' reads reads' held held' writes writes' status.Done = Write
 Ends words left left' reads reads' held held' writes writes' status.Usage = Writes words left left' held held' status.Usage
 Ends words left left' reads reads' held held' writes writes' status.Refused = Writes words left left' held held' status.Refused
 Ends words left left' reads reads' held held' writes writes' status.TooLong = Writes words left left' held held' status.TooLong
+
+-- the bytes stay told or untold, and a count of failures doesn't fall
+pub record IsSteady (told told' : Option (List ℕ)) (faults faults' : ℕ) : Type 0 where
+  pub same : SameTold told told'
+  pub later : faults ≤ faults'
 
 -- the words are a command, and no call on the source or the sink failed
 pub record GoesWell (words : List (List ℕ)) (reads reads' writes writes' : ℕ) : Type 0 where

@@ -17,6 +17,8 @@ Stopped old new before now Memory = (bytes : List ℕ) × Consumes old new bytes
 Stopped old new before now Fault = Rose before now × ((bytes : List ℕ) × (length bytes ≤ most_bytes) × Consumes old new bytes)
 Stopped old new before now TooLong = (bytes : List ℕ) × (most_bytes < length bytes) × Consumes old new bytes
 
--- a front of the text was appended
-abbrev pub AppendsFront : Option (List ℕ) → Option (List ℕ) → List ℕ → Type 0
-AppendsFront old new text = (count : ℕ) × Appends old new (take count text)
+-- a front of the text was appended, and not the whole
+pub record AppendsFront (old new : Option (List ℕ)) (text : List ℕ) : Type 0 where
+  pub count : ℕ
+  pub short : count < length text
+  pub appended : Appends old new (take count text)

@@ -4,8 +4,8 @@ ghost use Rattle.solid_top.specs.FirstForm.{line_end, global_line, first_directo
 ghost use Rattle.solid_top.specs.FormReading.{sphere_at, parameter_line_at, start_line_at, pair_at};
 ghost use Rattle.solid_top.specs.Reading.{Gives, strip_all};
 
-use crate::plain_numbers::Point;
-use crate::points::{coordinate, place};
+use crate::plain_numbers::DecimalPoint;
+use crate::points::{delimited, position};
 use crate::scan::{blanks, is_blank, number, text};
 use crate::spheres::Sphere;
 
@@ -89,8 +89,8 @@ fn sphere_record(bytes: &[u8]) -> Option<(Sphere, &[u8])>
     ensures { Gives (λ found. (found.0, found.1.now)) result (sphere_at bytes.now) }
 {
     let rest = text(b"158,", bytes)?;
-    let (r, rest) = coordinate(Point::Required, b',', rest)?;
-    let (centre, rest) = place(Point::Required, b',', b';', rest)?;
+    let (r, rest) = delimited(DecimalPoint::Required, b',', rest)?;
+    let (centre, rest) = position(DecimalPoint::Required, b',', b';', rest)?;
     if r > 0 {
         Some((Sphere { r, centre }, rest))
     } else {

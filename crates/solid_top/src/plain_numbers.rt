@@ -8,7 +8,7 @@ ghost use Rattle.solid_top.specs.Reading.{Gives};
 
 /// Whether a number has to have a point.
 #[derive(Clone, Copy, Debug, PartialEq, Eq)]
-pub enum Point {
+pub enum DecimalPoint {
     Optional,
     Required,
 }
@@ -129,12 +129,12 @@ fn signed(minus: bool, magnitude: u64) -> i128
 
 /// The steps of the plain number that is the whole text.
 #[tactic(auto, unfolding(crate::specs::PlainReading::plain_at))]
-pub fn plain(rule: Point, text: &[u8]) -> Option<i128>
+pub fn plain(rule: DecimalPoint, text: &[u8]) -> Option<i128>
     ensures value { Gives (λ steps. steps) result (plain_at rule text.now) }
     ensures within { IfSome result (λ steps. IsWithin far steps) }
 {
     let parts = parts_of(text)?;
-    if rule == Point::Required && parts.decimals.is_empty() {
+    if rule == DecimalPoint::Required && parts.decimals.is_empty() {
         return None;
     }
     let steps = magnitude(&parts)?;

@@ -1,17 +1,17 @@
 ghost use Rattle.std.specs.Prelude.{◌≡◌, IfSome};
 ghost use Rattle.solid_base.specs.Range.{far, IsWithin, IsPointWithin};
-ghost use Rattle.solid_top.specs.FormReading.{coordinate_at, place_at, entity_number_at, point_at};
+ghost use Rattle.solid_top.specs.FormReading.{delimited_at, position_at, entity_number_at, point_at};
 ghost use Rattle.solid_top.specs.Reading.{Gives};
 
-use crate::plain_numbers::{Point, are_digits, number_in, plain};
+use crate::plain_numbers::{DecimalPoint, are_digits, number_in, plain};
 use crate::questions::PointQuestion;
 use crate::scan::{cut, text};
 use solid_base::Vec3;
 
-/// A coordinate in front, and the bytes behind the byte that ends it.
-#[tactic(auto, unfolding(crate::specs::FormReading::coordinate_at))]
-pub fn coordinate(rule: Point, stop: u8, bytes: &[u8]) -> Option<(i128, &[u8])>
-    ensures value { Gives (λ found. (found.0, found.1.now)) result (coordinate_at rule stop bytes.now) }
+/// A plain number in front, and the bytes behind the byte that ends it.
+#[tactic(auto, unfolding(crate::specs::FormReading::delimited_at))]
+pub fn delimited(rule: DecimalPoint, stop: u8, bytes: &[u8]) -> Option<(i128, &[u8])>
+    ensures value { Gives (λ found. (found.0, found.1.now)) result (delimited_at rule stop bytes.now) }
     ensures within { IfSome result (λ found. IsWithin far found.0) }
 {
     let (number, rest) = cut(stop, bytes)?;
@@ -20,14 +20,14 @@ pub fn coordinate(rule: Point, stop: u8, bytes: &[u8]) -> Option<(i128, &[u8])>
 }
 
 /// Three coordinates in front, and the bytes behind them.
-#[tactic(auto, unfolding(crate::specs::FormReading::place_at))]
-pub fn place(rule: Point, between: u8, behind: u8, bytes: &[u8]) -> Option<(Vec3, &[u8])>
-    ensures value { Gives (λ found. (found.0, found.1.now)) result (place_at rule between behind bytes.now) }
+#[tactic(auto, unfolding(crate::specs::FormReading::position_at))]
+pub fn position(rule: DecimalPoint, between: u8, behind: u8, bytes: &[u8]) -> Option<(Vec3, &[u8])>
+    ensures value { Gives (λ found. (found.0, found.1.now)) result (position_at rule between behind bytes.now) }
     ensures within { IfSome result (λ found. IsPointWithin far found.0) }
 {
-    let (x, rest) = coordinate(rule, between, bytes)?;
-    let (y, rest) = coordinate(rule, between, rest)?;
-    let (z, rest) = coordinate(rule, behind, rest)?;
+    let (x, rest) = delimited(rule, between, bytes)?;
+    let (y, rest) = delimited(rule, between, rest)?;
+    let (z, rest) = delimited(rule, behind, rest)?;
     Some((Vec3 { x, y, z }, rest))
 }
 
@@ -56,6 +56,6 @@ pub fn point_line(bytes: &[u8]) -> Option<(PointQuestion, &[u8])>
     let rest = text(b"@1 point ", bytes)?;
     let (number, rest) = cut(b' ', rest)?;
     let entity = entity_number(number)?;
-    let (at, rest) = place(Point::Optional, b' ', b'\n', rest)?;
+    let (at, rest) = position(DecimalPoint::Optional, b' ', b'\n', rest)?;
     Some((PointQuestion { entity, at }, rest))
 }

@@ -1,6 +1,6 @@
 ghost use Rattle.std.specs.Prelude.{◌≡◌, ◌↔◌, ◌≢◌, ◌⊎◌, ℕ, List, Option, Some, IsTrue, codes, map, ◌<◌, ◌≤◌, length};
 ghost use Rattle.std.specs.Io.KnownBytes.{Appends, Keeps};
-ghost use Rattle.solid_io.specs.Causes.{Rose, SameTold};
+ghost use Rattle.solid_io.specs.Causes.{Rose};
 ghost use Rattle.solid_top.specs.declared.questions.PointQuestion.{PointQuestion};
 ghost use Rattle.solid_top.specs.declared.spheres.Sphere.{Sphere};
 ghost use Rattle.solid_top.specs.Answers.{replay_text};
@@ -8,7 +8,7 @@ ghost use Rattle.solid_top.specs.Commands.{IsCommand, too_long_text};
 ghost use Rattle.solid_top.specs.FirstForm.{IsFirstForm};
 ghost use Rattle.solid_top.specs.declared.statuses.Status.{Status};
 ghost use Rattle.solid_top.specs.Replay.{IsReplayed, IsNoFirstForm};
-ghost use Rattle.solid_top.specs.Run.{Ends, Finishes, GoesWell, IsWritten};
+ghost use Rattle.solid_top.specs.Run.{Ends, Finishes, GoesWell, IsSteady, IsWritten};
 ghost use Rattle.solid_top.specs.Streams.{most_bytes};
 ghost use Rattle.solid_top.specs.TopFaults.{refused_text};
 
@@ -46,7 +46,8 @@ fn is_replay(word: &str) -> bool
 
 /// Writes the text of a status.
 fn finish<K: Sink>(sink: &mut K, status: Status, text: &[u8]) -> Status
-    ensures { Finishes (K.held sink.old) (K.held sink.new) (K.faults sink.old) (K.faults sink.new) status text.now result }
+    ensures finishes { Finishes (K.held sink.old) (K.held sink.new) (K.faults sink.old) (K.faults sink.new) status text.now result }
+    ensures sink { IsSteady (K.held sink.old) (K.held sink.new) (K.faults sink.old) (K.faults sink.new) }
 {
     match write_text(sink, text) {
         Ok(()) => status,
@@ -57,8 +58,9 @@ fn finish<K: Sink>(sink: &mut K, status: Status, text: &[u8]) -> Status
 /// Answers an input that was read, and writes the answers.
 fn replay_input<K: Sink>(alloc: Global, bytes: &[u8], sink: &mut K) -> Status
     requires { length bytes.now ≤ most_bytes }
-    ensures { ((result ≡ Status.Memory) × Keeps (K.held sink.old) (K.held sink.new)) ⊎ ((s : Status) × (text : List ℕ) × IsReplayed bytes.now s text ×
+    ensures answered { ((result ≡ Status.Memory) × Keeps (K.held sink.old) (K.held sink.new)) ⊎ ((s : Status) × (text : List ℕ) × IsReplayed bytes.now s text ×
         Finishes (K.held sink.old) (K.held sink.new) (K.faults sink.old) (K.faults sink.new) s text result) }
+    ensures sink { IsSteady (K.held sink.old) (K.held sink.new) (K.faults sink.old) (K.faults sink.new) }
 {
     match replay_run(alloc, bytes, &mut NoTally) {
         Ok(output) => finish(sink, output.status, output.text.as_slice()),
@@ -73,8 +75,10 @@ fn run_words<S: Source, K: Sink>(
     source: &mut S,
     sink: &mut K,
 ) -> Status
-    ensures { Ends (map (λ word. word.now) words.now) (S.left source.old) (S.left source.new) (S.faults source.old) (S.faults source.new)
+    ensures ends { Ends (map (λ word. word.now) words.now) (S.left source.old) (S.left source.new) (S.faults source.old) (S.faults source.new)
         (K.held sink.old) (K.held sink.new) (K.faults sink.old) (K.faults sink.new) result }
+    ensures source { IsSteady (S.left source.old) (S.left source.new) (S.faults source.old) (S.faults source.new) }
+    ensures sink { IsSteady (K.held sink.old) (K.held sink.new) (K.faults sink.old) (K.faults sink.new) }
 {
     if !is_command(words) {
         return finish(sink, Status::Usage, USAGE);
@@ -103,6 +107,10 @@ pub fn run<R: Threads + Wait + Sync, S: Source, K: Sink, G: Gate>(
 ) -> Status
     ensures ends { Ends (map (λ word. word.now) words.now) (S.left source.old) (S.left source.new) (S.faults source.old) (S.faults source.new)
         (K.held sink.old) (K.held sink.new) (K.faults sink.old) (K.faults sink.new) result }
+
+    // What is told stays told, and the counts of failures never fall.
+    ensures source { IsSteady (S.left source.old) (S.left source.new) (S.faults source.old) (S.faults source.new) }
+    ensures sink { IsSteady (K.held sink.old) (K.held sink.new) (K.faults sink.old) (K.faults sink.new) }
 
     // Usage comes exactly where the words are no command, unless a write failed; then nothing is read.
     ensures usage { result ≢ Status.WriteFault → ((result ≡ Status.Usage) ↔ (IsCommand (map (λ word. word.now) words.now) → ⊥)) }
