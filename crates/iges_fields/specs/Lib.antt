@@ -1,0 +1,4 @@
+pub mod Delimiters
+pub mod Faults
+pub mod Reading
+pub mod Readers
