@@ -1,4 +1,5 @@
 pub mod Delimiters
 pub mod Faults
+pub mod Grammar
 pub mod Reading
 pub mod Readers

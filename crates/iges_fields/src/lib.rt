@@ -5,6 +5,7 @@
 
 mod faults;
 mod kinds;
+pub mod laws;
 mod readers;
 mod scan;
 
