@@ -6,9 +6,11 @@
 mod faults;
 mod kinds;
 pub mod laws;
+mod layouts;
 mod readers;
 mod scan;
 
 pub use faults::FieldFault;
 pub use kinds::{Field, FieldKind};
+pub use layouts::lay;
 pub use readers::Fields;
