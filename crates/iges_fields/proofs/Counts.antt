@@ -1,5 +1,5 @@
 -- The count of a text, where it is kept within a number of the machine.
-use Rattle.std.proofs.Common.{◌≡◌, ℕ, ◌+◌, ◌-◌, ◌^◌, ◌<◌, ◌≤◌, List, length, take, drop, min, true, false, nat_lt, refl, sym, ap, ◌∙◌, arith, subst, Result, inl, inr}
+use Rattle.std.proofs.Common.{◌≡◌, ℕ, ◌+◌, ◌-◌, ◌^◌, ◌<◌, List, length, take, drop, min, true, nat_lt, refl, sym, ap, ◌∙◌, arith, subst, Result, inl, inr}
 use Rattle.std.proofs.lemmas.Bool.{cases_lt}
 use Rattle.std.proofs.lemmas.List.{drop-drop}
 use Rattle.solid_base.specs.Digits.{number_of}
@@ -13,8 +13,8 @@ use Rattle.iges_fields.specs.Readers.{Gives}
 text_at-min : (comma semi n m : ℕ) (bytes : List ℕ) → length bytes < m → text_at comma semi (min n m) bytes ≡ text_at comma semi n bytes
 text_at-min comma semi n m bytes small =
     elim (cases_lt n m) [
-      inl lt ↦ (let e : min n m ≡ n = omega arith in rw e refl)
-    | inr le ↦ (let e : min n m ≡ m = omega arith in let a : nat_lt (length bytes) m ≡ true = grind arith in let b : nat_lt (length bytes) n ≡ true = grind arith in rw (e, a, b) refl)
+      | inl lt ↦ (let e : min n m ≡ n = omega arith in rw e refl)
+      | inr le ↦ (let e : min n m ≡ m = omega arith in let a : nat_lt (length bytes) m ≡ true = grind arith in let b : nat_lt (length bytes) n ≡ true = grind arith in rw (e, a, b) refl)
     ]
 
 -- where digits and H stand in front, a text does

@@ -1,10 +1,10 @@
 -- What is read is spelt so, and each fault comes where it says.
-use Rattle.std.proofs.Common.{◌≡◌, ◌⊎◌, inl, inr, ℕ, suc, ◌+◌, ◌-◌, ◌<◌, ◌≤◌, List, [], ◌∷◌, ◌++◌, length, take, drop, Bool, true, false, cond, not, ◌&&◌, ◌==◌, nat_lt, refl, sym, ap, subst, ◌∙◌, arith, add-one, append_assoc, append-nil, length-append, length-take-le, Option, Some, None, Result, Ok, Err}
+use Rattle.std.proofs.Common.{◌≡◌, ◌⊎◌, inl, inr, ℕ, ◌+◌, ◌<◌, ◌≤◌, List, [], ◌∷◌, ◌++◌, length, take, drop, Bool, true, false, cond, not, ◌==◌, nat_lt, refl, sym, ap, subst, ◌∙◌, arith, append_assoc, append-nil, length-append, length-take-le, Option, Some, None, Result, Ok, Err}
 use Rattle.std.specs.List.{prefix_len}
 use Rattle.std.proofs.lemmas.List.{take-append-drop, drop-drop}
 use Rattle.std.proofs.lemmas.List.Folds.{length-prefix_len}
 use Rattle.std.proofs.lemmas.Bool.Decides.{nat_tests}
-use Rattle.solid_base.specs.Digits.{is_digit, AreDigits, number_of}
+use Rattle.solid_base.specs.Digits.{is_digit, number_of}
 use Rattle.solid_base.specs.Spelling.{is_blank, behind_blanks, before_blanks, digit_count, behind_digits, class_of, Spelling}
 use Rattle.solid_base.specs.Spelling as spelling
 use Rattle.solid_base.proofs.Prefix.{both, front_passes}
@@ -13,10 +13,10 @@ use Rattle.iges_fields.specs.declared.kinds.FieldKind.{FieldKind}
 use Rattle.iges_fields.specs.declared.kinds.FieldKind.TheVariants as kind
 use Rattle.iges_fields.specs.declared.faults.FieldFault.{FieldFault}
 use Rattle.iges_fields.specs.declared.faults.FieldFault.TheVariants as fault
-use Rattle.iges_fields.specs.Grammar.{AreBlanks, IsText, IsSpelling, delimiter, IsField, RunsPast, IsOpen, IsNoField}
+use Rattle.iges_fields.specs.Grammar.{AreBlanks, IsSpelling, delimiter, IsField, RunsPast, IsOpen, IsNoField}
 use Rattle.iges_fields.specs.Reading.{Reading, delimited, text_at, bytes_before, kind_of, of_kind, word_at, is_counted, content_at, field_at}
 use Rattle.iges_fields.specs.Delimiters.{AreDelimiters}
-use Rattle.iges_fields.proofs.Ends.{IsTrimmed, trimmed}
+use Rattle.iges_fields.proofs.Ends.{trimmed}
 use Rattle.iges_fields.proofs.Written.{spelt_is_read, past_is_read, open_is_read}
 
 -- a text is cut into blanks, the spelling of a field, blanks and the rest, and read is what the rest makes of it
@@ -104,7 +104,7 @@ text_cut comma semi before bytes blank h = go (nat_lt (length body) n) refl wher
       })
 
 -- ---- a field that is no text
-kind_spells : (o : Option Spelling) (w : List ℕ) (k : FieldKind) → class_of w ≡ o → kind_of o ≡ Some k → IsSpelling k w w
+pub kind_spells : (o : Option Spelling) (w : List ℕ) (k : FieldKind) → class_of w ≡ o → kind_of o ≡ Some k → IsSpelling k w w
 kind_spells None w k h e = cc
 kind_spells (Some spelling.Empty) w k h e = let same : kind.Empty ≡ k = cc in subst (λ (x : FieldKind). IsSpelling x w w) same (empty_is_spelt w h, empty_is_spelt w h)
 kind_spells (Some spelling.Whole) w k h e = let same : kind.Whole ≡ k = cc in subst (λ (x : FieldKind). IsSpelling x w w) same (whole_is_spelt w h, refl)
@@ -206,42 +206,42 @@ delimited_counts comma semi k content (b ∷ rest) h = go (b == comma) (b == sem
 pub read_is_spelt : (comma semi : ℕ) (text : List ℕ) (f : Reading) → field_at comma semi text ≡ Ok f → IsField comma semi text f
 read_is_spelt comma semi text f h =
     elim (field_cut comma semi text) [
-      inl c ↦ (
-        let d = delimited_back comma semi c.kind c.content c.end f (sym c.gives ∙ h) in
-        let spells = subst (λ (k : FieldKind). IsSpelling k f.text c.spelt) d.same_kind (subst (λ (t : List ℕ). IsSpelling c.kind t c.spelt) d.same_content c.spells) in
-        record { before = c.before; spelt = c.spelt; behind = c.behind; blank_before = c.blank_before; spells = spells; blank_behind = c.blank_behind; is = c.is ∙ ap (λ (t : List ℕ). c.before ++ (c.spelt ++ (c.behind ++ t))) d.is }
-      )
-    | inr (inl p) ↦ (let e : Err fault.BadText ≡ Ok f = sym p.1 ∙ h in cc)
-    | inr (inr p) ↦ (let e : Err fault.BadToken ≡ Ok f = sym p ∙ h in cc)
+      | inl c ↦ (
+          let d = delimited_back comma semi c.kind c.content c.end f (sym c.gives ∙ h) in
+          let spells = subst (λ (k : FieldKind). IsSpelling k f.text c.spelt) d.same_kind (subst (λ (t : List ℕ). IsSpelling c.kind t c.spelt) d.same_content c.spells) in
+          record { before = c.before; spelt = c.spelt; behind = c.behind; blank_before = c.blank_before; spells = spells; blank_behind = c.blank_behind; is = c.is ∙ ap (λ (t : List ℕ). c.before ++ (c.spelt ++ (c.behind ++ t))) d.is }
+          )
+      | inr (inl p) ↦ (let e : Err fault.BadText ≡ Ok f = sym p.1 ∙ h in cc)
+      | inr (inr p) ↦ (let e : Err fault.BadToken ≡ Ok f = sym p ∙ h in cc)
     ]
 
 pub past_is_spelt : (comma semi : ℕ) (text : List ℕ) → field_at comma semi text ≡ Err fault.BadText → RunsPast text
 past_is_spelt comma semi text h =
     elim (field_cut comma semi text) [
-      inl c ↦ absurd (delimited_counts comma semi c.kind c.content c.end (sym c.gives ∙ h))
-    | inr (inl p) ↦ p.0
-    | inr (inr p) ↦ (let e : ◌≡◌ {A = Result Reading FieldFault} (Err fault.BadToken) (Err fault.BadText) = sym p ∙ h in cc)
+      | inl c ↦ absurd (delimited_counts comma semi c.kind c.content c.end (sym c.gives ∙ h))
+      | inr (inl p) ↦ p.0
+      | inr (inr p) ↦ (let e : ◌≡◌ {A = Result Reading FieldFault} (Err fault.BadToken) (Err fault.BadText) = sym p ∙ h in cc)
     ]
 
 pub open_is_spelt : (comma semi : ℕ) (text : List ℕ) → field_at comma semi text ≡ Err fault.NoEnd → IsOpen text
 open_is_spelt comma semi text h =
     elim (field_cut comma semi text) [
-      inl c ↦ (
-        let e = delimited_open comma semi c.kind c.content c.end (sym c.gives ∙ h) in
-        record {
-          kind = c.kind;
-          content = c.content;
-          before = c.before;
-          spelt = c.spelt;
-          behind = c.behind;
-          blank_before = c.blank_before;
-          spells = c.spells;
-          blank_behind = c.blank_behind;
-          is = c.is ∙ ap (λ (t : List ℕ). c.before ++ (c.spelt ++ (c.behind ++ t))) e ∙ ap (λ (t : List ℕ). c.before ++ (c.spelt ++ t)) (append-nil c.behind);
-        }
-      )
-    | inr (inl p) ↦ (let e : ◌≡◌ {A = Result Reading FieldFault} (Err fault.BadText) (Err fault.NoEnd) = sym p.1 ∙ h in cc)
-    | inr (inr p) ↦ (let e : ◌≡◌ {A = Result Reading FieldFault} (Err fault.BadToken) (Err fault.NoEnd) = sym p ∙ h in cc)
+      | inl c ↦ (
+          let e = delimited_open comma semi c.kind c.content c.end (sym c.gives ∙ h) in
+          record {
+            kind = c.kind;
+            content = c.content;
+            before = c.before;
+            spelt = c.spelt;
+            behind = c.behind;
+            blank_before = c.blank_before;
+            spells = c.spells;
+            blank_behind = c.blank_behind;
+            is = c.is ∙ ap (λ (t : List ℕ). c.before ++ (c.spelt ++ (c.behind ++ t))) e ∙ ap (λ (t : List ℕ). c.before ++ (c.spelt ++ t)) (append-nil c.behind);
+          }
+          )
+      | inr (inl p) ↦ (let e : ◌≡◌ {A = Result Reading FieldFault} (Err fault.BadText) (Err fault.NoEnd) = sym p.1 ∙ h in cc)
+      | inr (inr p) ↦ (let e : ◌≡◌ {A = Result Reading FieldFault} (Err fault.BadToken) (Err fault.NoEnd) = sym p ∙ h in cc)
     ]
 
 pub token_is_none : (comma semi : ℕ) (text : List ℕ) → field_at comma semi text ≡ Err fault.BadToken → AreDelimiters comma semi → IsNoField comma semi text
@@ -258,3 +258,14 @@ none_is_token comma semi text none = go (field_at comma semi text) refl where
   go (Err fault.BadText) h = absurd (none.no_past (past_is_spelt comma semi text h))
   go (Err fault.BadToken) h = refl
   go (Err fault.NoEnd) h = absurd (none.no_open (open_is_spelt comma semi text h))
+
+-- what stands behind a field is shorter than the text: the measure of a loop over a reader
+pub field_shorter : (comma semi : ℕ) (text : List ℕ) (f : Reading) → field_at comma semi text ≡ Ok f → length f.rest < length text
+field_shorter comma semi text f h =
+    let is = read_is_spelt comma semi text f h in
+    let end : List ℕ = delimiter comma semi f.ended ∷ f.rest in
+    let whole = ap (length {A = ℕ}) is.is in
+    let a = length-append is.before (is.spelt ++ (is.behind ++ end)) in
+    let b = length-append is.spelt (is.behind ++ end) in
+    let c = length-append is.behind end in
+    omega (arith, whole, a, b, c)

@@ -1,5 +1,5 @@
 -- Tokens in lines: what is laid step by step, cut into lines, and read back.
-use Rattle.std.proofs.Common.{◌≡◌, ◌≢◌, ℕ, zero, suc, ◌+◌, ◌-◌, ◌*◌, ◌%◌, ◌^◌, ◌<◌, ◌≤◌, List, [], ◌∷◌, ◌++◌, length, take, drop, get_or, replicate, decimal, Bool, true, false, ◌==◌, refl, sym, ap, subst, ◌∙◌, arith, append_assoc, append-nil, length-append, length-drop, length-take-le, min, add-one, Ok, Err, Result, IfOk}
+use Rattle.std.proofs.Common.{◌≡◌, ℕ, zero, suc, ◌+◌, ◌-◌, ◌*◌, ◌%◌, ◌^◌, ◌<◌, ◌≤◌, List, [], ◌∷◌, ◌++◌, length, take, drop, get_or, replicate, decimal, Bool, true, false, ◌==◌, refl, sym, ap, subst, ◌∙◌, arith, append_assoc, append-nil, length-append, length-drop, length-take-le, min, add-one, Ok, Err, Result, IfOk}
 use Rattle.std.specs.declared.alloc.AllocError.{AllocError}
 use Rattle.std.specs.List.{AllByRecursion, concat}
 use Rattle.std.proofs.lemmas.Fmt.{decimal_by_steps, decimal_nonempty}
@@ -60,14 +60,13 @@ laid_reads width comma semi used t [] behind law h s =
     (behind, ap (field_at comma semi) glue ∙ piece_again comma semi (gap width used (length (piece semi t))) t behind true law h.0 s.0)
 laid_reads width comma semi used t (u ∷ ts) behind law h s =
     let p = placed width used (piece comma t) in
-    let more = laid width comma semi (used + length p) (u ∷ ts) in
-    (
+    let more = laid width comma semi (used + length p) (u ∷ ts) in (
       more ++ behind,
       ap (field_at comma semi) (append_assoc p more behind) ∙ piece_again comma semi (gap width used (length (piece comma t))) t (more ++ behind) false law h.0 s.0,
       laid_reads width comma semi (used + length p) u ts behind law h.1 s.1,
     )
 
-some_tokens : (width comma semi : ℕ) (ts : List Token) (behind : List ℕ) → 0 < length ts → AreDelimiters comma semi → AreSpelt ts → AreHeld ts → Reads comma semi (laid width comma semi 0 ts ++ behind) ts
+pub some_tokens : (width comma semi : ℕ) (ts : List Token) (behind : List ℕ) → 0 < length ts → AreDelimiters comma semi → AreSpelt ts → AreHeld ts → Reads comma semi (laid width comma semi 0 ts ++ behind) ts
 some_tokens width comma semi [] behind some law h s = absurd (omega arith)
 some_tokens width comma semi (t ∷ ts) behind some law h s = laid_reads width comma semi 0 t ts behind law h s
 
@@ -170,11 +169,11 @@ cut_more width k text rest front behind line lines some more kk f b l h =
       few = omega (arith, size);
       open_end = open_end;
       joined = ap (λ (x : List ℕ). x ++ behind) (last ∙ ap (λ (x : List ℕ). concat lines ++ x) l)
-      ∙ append_assoc (concat lines) (front ++ replicate fill 32) behind
-      ∙ ap (λ (x : List ℕ). concat lines ++ x) (append_assoc front (replicate fill 32) behind ∙ ap (λ (x : List ℕ). front ++ x) (swapped fill behind open_end) ∙ sym (append_assoc front behind (replicate fill 32)))
-      ∙ ap (λ (x : List ℕ). concat lines ++ (x ++ replicate fill 32)) whole
-      ∙ sym (append_assoc (concat lines) rest (replicate fill 32))
-      ∙ ap (λ (x : List ℕ). x ++ replicate fill 32) so_far;
+          ∙ append_assoc (concat lines) (front ++ replicate fill 32) behind
+          ∙ ap (λ (x : List ℕ). concat lines ++ x) (append_assoc front (replicate fill 32) behind ∙ ap (λ (x : List ℕ). front ++ x) (swapped fill behind open_end) ∙ sym (append_assoc front behind (replicate fill 32)))
+          ∙ ap (λ (x : List ℕ). concat lines ++ (x ++ replicate fill 32)) whole
+          ∙ sym (append_assoc (concat lines) rest (replicate fill 32))
+          ∙ ap (λ (x : List ℕ). x ++ replicate fill 32) so_far;
     }
 
 pub cut_all : (width : ℕ) (text rest : List ℕ) (lines : List (List ℕ)) → rest ≡ [] → IsCutTo width text rest lines → AreLines width text lines

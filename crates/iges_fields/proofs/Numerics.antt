@@ -1,11 +1,11 @@
 -- The bytes of numbers, blanks and delimiters.
-use Rattle.std.proofs.Common.{◌≡◌, ◌≢◌, ℕ, ◌<◌, ◌≤◌, List, [], ◌∷◌, ◌++◌, Bool, true, false, not, ◌&&◌, ◌||◌, ◌==◌, refl, sym, ap, subst, ◌∙◌, arith, Option, Some, None, inl, inr}
+use Rattle.std.proofs.Common.{◌≡◌, ℕ, List, [], ◌∷◌, ◌++◌, Bool, true, false, not, ◌||◌, ◌==◌, refl, sym, subst, ◌∙◌, arith, Option, Some, None, inl, inr}
 use Rattle.std.proofs.lemmas.Bool.{cases_eq}
 use Rattle.std.proofs.lemmas.Bool.Decides.{nat_tests}
 use Rattle.solid_base.specs.Digits.{is_digit, AreDigits}
-use Rattle.solid_base.specs.Spelling.{is_blank, is_sign, is_exponent_letter, Sign, NoSign, Plus, Minus, Exponent, sign_text, fraction_text, exponent_text, decimals_of, IsExponent, IsWhole, IsReal}
+use Rattle.solid_base.specs.Spelling.{is_blank, is_exponent_letter, Sign, NoSign, Plus, Minus, Exponent, sign_text, fraction_text, exponent_text, decimals_of, IsExponent, IsWhole, IsReal}
 use Rattle.solid_base.proofs.Prefix.{AllPass}
-use Rattle.iges_fields.specs.Delimiters.{is_numeric, is_lawful, AreDelimiters}
+use Rattle.iges_fields.specs.Delimiters.{is_numeric, is_lawful}
 use Rattle.iges_fields.specs.Reading.{is_delimiter}
 
 pub all_append : (p : ℕ → Bool) (xs ys : List ℕ) → AllPass p xs → AllPass p ys → AllPass p (xs ++ ys)
@@ -36,8 +36,8 @@ blank_no_digit b h = grind (arith, nat_tests)
 pub at_byte : (b c : ℕ) (p : ℕ → Bool) → p b ≡ true → p c ≡ false → (b == c) ≡ false
 at_byte b c p h k =
     elim (cases_eq b c) [
-      inl e ↦ (let t : p c ≡ true = rw (sym e) h in let f : false ≡ true = sym k ∙ t in cc)
-    | inr n ↦ grind arith
+      | inl e ↦ (let t : p c ≡ true = rw (sym e) h in let f : false ≡ true = sym k ∙ t in cc)
+      | inr n ↦ grind arith
     ]
 
 pub record IsLawful (d : ℕ) : Type 0 where

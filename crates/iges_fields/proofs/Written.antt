@@ -1,21 +1,20 @@
 -- What is spelt as a field is read as it.
-use Rattle.std.proofs.Common.{◌≡◌, ◌≢◌, ℕ, ◌+◌, ◌<◌, ◌≤◌, List, [], ◌∷◌, ◌++◌, length, take, drop, Bool, true, false, cond, not, ◌&&◌, ◌==◌, nat_lt, refl, sym, ap, subst, ◌∙◌, arith, append_assoc, append-nil, length-append, Option, Some, None, Result, Ok, Err}
+use Rattle.std.proofs.Common.{◌≡◌, ◌≢◌, ℕ, ◌+◌, ◌<◌, List, [], ◌∷◌, ◌++◌, length, take, drop, Bool, true, false, not, ◌==◌, nat_lt, refl, sym, ap, ◌∙◌, arith, append_assoc, append-nil, length-append, Option, Some, Ok, Err}
 use Rattle.std.specs.List.{prefix_len}
 use Rattle.std.proofs.Math.Seq.{take-append_seam, drop-append_seam, drop-append-add}
 use Rattle.solid_base.specs.Digits.{is_digit, AreDigits, number_of}
-use Rattle.solid_base.specs.Spelling.{is_blank, behind_blanks, before_blanks, digit_count, behind_digits, class_of, IsWhole, IsReal}
+use Rattle.solid_base.specs.Spelling.{is_blank, behind_blanks, before_blanks, digit_count, behind_digits, class_of}
 use Rattle.solid_base.proofs.Prefix.{AllPass, prefix_upto, front_upto, rest_upto}
 use Rattle.solid_base.proofs.Numerals.{whole_is_read, real_is_read}
 use Rattle.iges_fields.specs.declared.kinds.FieldKind.{FieldKind}
 use Rattle.iges_fields.specs.declared.kinds.FieldKind.TheVariants as kind
-use Rattle.iges_fields.specs.declared.faults.FieldFault.{FieldFault}
 use Rattle.iges_fields.specs.declared.faults.FieldFault.TheVariants as fault
-use Rattle.iges_fields.specs.Delimiters.{is_numeric, is_lawful, AreDelimiters}
+use Rattle.iges_fields.specs.Delimiters.{is_numeric, AreDelimiters}
 use Rattle.iges_fields.specs.Grammar.{AreBlanks, IsText, IsSpelling, delimiter, IsField, RunsPast, IsOpen}
 use Rattle.iges_fields.specs.Reading.{Reading, delimited, text_at, is_delimiter, bytes_before, kind_of, of_kind, word_at, is_counted, content_at, field_at}
 use Rattle.iges_fields.proofs.Numerics.{all_append, all_weaker, digit_no_blank, numeric_no_blank, lawful_parts, no_delimiter, comma_delimits, semi_delimits, whole_numeric, real_numeric}
 use Rattle.iges_fields.proofs.Counts.{content_counted}
-use Rattle.iges_fields.proofs.Ends.{none_pass, before_blanks_again, Stops, nothing_stops, delimiter_stops, blanks_no_digit, blanks_no_count, no_count, blanks_skipped}
+use Rattle.iges_fields.proofs.Ends.{before_blanks_again, Stops, nothing_stops, delimiter_stops, blanks_no_digit, blanks_no_count, no_count, blanks_skipped}
 
 -- ---- a number, or nothing
 word_again : (comma semi : ℕ) (w behind end : List ℕ) → AreDelimiters comma semi → AllPass is_numeric w → AreBlanks behind → Stops comma semi end
@@ -162,9 +161,9 @@ past_is_read comma semi text h =
     ap (λ (t : List ℕ). content_at comma semi (behind_blanks t)) h.is
     ∙ ap (content_at comma semi) (blanks_skipped h.before (h.digits ++ 72 ∷ h.bytes) h.blank_before (digits_first h.digits (72 ∷ h.bytes) h.are_digits some))
     ∙ text_begins comma semi h.digits h.bytes h.are_digits some ∙ rw past refl where
-  go : (ds : List ℕ) → length h.bytes < number_of ds → 0 < length ds
-  go [] p = absurd (omega arith)
-  go (d ∷ ds) p = omega arith
+      go : (ds : List ℕ) → length h.bytes < number_of ds → 0 < length ds
+      go [] p = absurd (omega arith)
+      go (d ∷ ds) p = omega arith
 
 pub open_is_read : (comma semi : ℕ) (text : List ℕ) → AreDelimiters comma semi → IsOpen text → field_at comma semi text ≡ Err fault.NoEnd
 open_is_read comma semi text law h =

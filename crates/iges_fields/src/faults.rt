@@ -46,3 +46,22 @@ impl FieldFault {
         Ok(out)
     }
 }
+
+#[cfg(test)]
+mod tests {
+    use super::*;
+
+    #[test]
+    fn writes_each_fault(rt: HostRuntime) -> Result<(), AllocError> {
+        let cases: [(FieldFault, u32, &[u8]); 3] = [
+            (FieldFault::BadText, 2, b"BadText"),
+            (FieldFault::BadToken, 3, b"BadToken"),
+            (FieldFault::NoEnd, 4, b"NoEnd"),
+        ];
+        for (fault, number, word) in cases {
+            assert_eq!(rt; fault.number(), number);
+            assert_eq!(rt; fault.write_fault(rt.alloc())?.as_slice(), word);
+        }
+        Ok(())
+    }
+}

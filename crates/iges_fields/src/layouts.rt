@@ -2,7 +2,7 @@ ghost use Rattle.std.specs.Prelude.{◌≡◌, ◌⊎◌, ℕ, ◌+◌, ◌-◌,
 ghost use Rattle.std.specs.List.{concat};
 ghost use Rattle.iges_fields.specs.Delimiters.{AreDelimiters};
 ghost use Rattle.iges_fields.specs.Grammar.{delimiter};
-ghost use Rattle.iges_fields.specs.Layout.{spelling_of, piece, gap, placed, laid, AreSpelt, AreHeld, IsHeld, AreLines, Reads};
+ghost use Rattle.iges_fields.specs.Layout.{spelling_of, piece, gap, placed, laid, AreSpelt, AreHeld, IsHeld, IsSpelt, AreLines, Reads};
 
 use itoa::Buffer;
 use solid_base::{Bytes, Lines, Token, Tokens};
@@ -82,7 +82,11 @@ fn laid(
     let mut text = Vec::new(alloc);
     let mut piece = Vec::new(alloc);
     for at in 0..tokens.len() {
-        make_piece(&mut piece, &tokens[at], delimiter(at, tokens.len(), comma, semi))?;
+        make_piece(
+            &mut piece,
+            &tokens[at],
+            delimiter(at, tokens.len(), comma, semi),
+        )?;
         place(&mut text, &piece, width)?;
     }
     Ok(text)
@@ -134,4 +138,65 @@ pub fn lay(
 {
     let text = laid(alloc, tokens.as_slice(), comma, semi, width)?;
     lines_of(alloc, text.as_slice(), width)
+}
+
+#[cfg(test)]
+mod tests {
+    use super::*;
+    use crate::kinds::FieldKind;
+    use crate::scan::kind_of;
+
+    fn number(alloc: Global, text: &[u8]) -> Result<Token, AllocError>
+        ensures { IfOk result IsSpelt }
+    {
+        let bytes = Bytes::from_vec(Vec::from_slice(alloc, text)?);
+        match kind_of(text) {
+            Some(FieldKind::Whole) => Ok(Token::Whole(bytes)),
+            Some(FieldKind::Real) => Ok(Token::Real(bytes)),
+            _ => Ok(Token::Empty),
+        }
+    }
+
+    fn text_of(alloc: Global, size: usize) -> Result<Token, AllocError>
+        ensures { IfOk result IsSpelt }
+    {
+        let mut bytes = Vec::new(alloc);
+        bytes.resize(size, b',')?;
+        Ok(Token::Text(Bytes::from_vec(bytes)))
+    }
+
+    #[test]
+    fn lays_tokens_where_they_fit(rt: HostRuntime) -> Result<(), AllocError> {
+        let alloc = rt.alloc();
+        // The size of a text of commas between two numbers, how many lines there are, and the column of
+        // the last at which the second number begins.
+        let cases = [
+            (0, 1, 7),
+            (52, 1, 60),
+            (53, 1, 61),
+            (54, 2, 0),
+            (56, 2, 0),
+            (57, 2, 61),
+            (58, 3, 0),
+            (124, 4, 1),
+        ];
+        for (size, count, column) in cases {
+            let mut tokens = Tokens::new(alloc);
+            tokens.push(number(alloc, b"158")?)?;
+            tokens.push(text_of(alloc, size)?)?;
+            tokens.push(number(alloc, b"1.")?)?;
+            let lines = lay(alloc, &tokens, b',', b';', 64)?;
+            assert_eq!(rt; lines.len(), count, "at {size}");
+            for line in lines.as_slice() {
+                assert_eq!(rt; line.len(), 64, "at {size}");
+            }
+            let Some(last) = lines.as_slice().last() else {
+                return Ok(());
+            };
+            assert!(rt; column <= last.len());
+            let end = &last.as_slice()[column..];
+            assert!(rt; end.starts_with(b"1.;"), "at {size}");
+        }
+        Ok(())
+    }
 }

@@ -27,25 +27,34 @@ fn delimited<'a>(
     let field = Field { kind, text };
     match behind {
         [] => Err(FieldFault::NoEnd),
-        [b, rest @ ..] if *b == comma => Ok(Found { field, rest, ended: false }),
-        [b, rest @ ..] if *b == semi => Ok(Found { field, rest, ended: true }),
+        [b, rest @ ..] if *b == comma => Ok(Found {
+            field,
+            rest,
+            ended: false,
+        }),
+        [b, rest @ ..] if *b == semi => Ok(Found {
+            field,
+            rest,
+            ended: true,
+        }),
         _ => Err(FieldFault::BadToken),
     }
 }
 
-fn text_at<'a>(
-    count: usize,
-    bytes: &'a [u8],
-    comma: u8,
-    semi: u8,
-) -> Result<Found<'a>, FieldFault>
+fn text_at<'a>(count: usize, bytes: &'a [u8], comma: u8, semi: u8) -> Result<Found<'a>, FieldFault>
     ensures { Gives result (text_at comma semi count bytes.now) }
 {
     if bytes.len() < count {
         return Err(FieldFault::BadText);
     }
     let (text, behind) = bytes.split_at(count);
-    delimited(FieldKind::Text, text, scan::behind_blanks(behind), comma, semi)
+    delimited(
+        FieldKind::Text,
+        text,
+        scan::behind_blanks(behind),
+        comma,
+        semi,
+    )
 }
 
 fn word_at<'a>(bytes: &'a [u8], comma: u8, semi: u8) -> Result<Found<'a>, FieldFault>
@@ -79,6 +88,13 @@ fn field_at<'a>(text: &'a [u8], comma: u8, semi: u8) -> Result<Found<'a>, FieldF
 }
 
 /// A reader of the fields of a record's text, which it borrows.
+///
+/// `comma` stands between fields and `semi` behind the last; what follows `semi` is not read. Blanks,
+/// which are spaces and tabs, may stand before and behind a field's content. A content that begins with
+/// digits and `H` is a text of that many bytes, whatever they are; any other runs to the next delimiter,
+/// and is empty, a whole number or a real number. A real number has a point or an exponent, which is
+/// `E`, `D`, `e` or `d`, an optional sign and digits.
+#[derive(Debug, Drop)]
 pub struct Fields<'a> {
     rest: &'a [u8],
     comma: u8,
@@ -127,5 +143,86 @@ impl<'a> Fields<'a> {
         self.rest = found.rest;
         self.ended = found.ended;
         Ok(Some(found.field))
+    }
+}
+
+#[cfg(test)]
+mod tests {
+    use super::*;
+    use std::alloc::{AllocError, Global};
+
+    /// Each field as a letter and its content in brackets, then `.` at the end, or a fault's number.
+    fn shown(alloc: Global, text: &[u8]) -> Result<Vec<u8>, AllocError> {
+        let mut out = Vec::new(alloc);
+        let mut fields = Fields::new(text, b',', b';');
+        for _ in 0..10 {
+            match fields.next() {
+                Ok(Some(field)) => {
+                    out.push(match field.kind {
+                        FieldKind::Empty => b'e',
+                        FieldKind::Whole => b'w',
+                        FieldKind::Real => b'r',
+                        FieldKind::Text => b't',
+                    })?;
+                    out.push(b'[')?;
+                    out.extend_from_slice(field.text)?;
+                    out.push(b']')?;
+                }
+                Ok(None) => {
+                    out.push(b'.')?;
+                    return Ok(out);
+                }
+                Err(FieldFault::BadText) => {
+                    out.push(b'2')?;
+                    return Ok(out);
+                }
+                Err(FieldFault::BadToken) => {
+                    out.push(b'3')?;
+                    return Ok(out);
+                }
+                Err(FieldFault::NoEnd) => {
+                    out.push(b'4')?;
+                    return Ok(out);
+                }
+            }
+        }
+        Ok(out)
+    }
+
+    #[test]
+    fn reads_the_fields_of_a_record(rt: HostRuntime) -> Result<(), AllocError> {
+        let alloc = rt.alloc();
+        let cases: [(&[u8], &[u8]); 22] = [
+            (b"158,1.0,0.,,+3 ;x", b"w[158]r[1.0]r[0.]e[]w[+3]."),
+            (b" \t 1 \t,\t;", b"w[1]e[]."),
+            (
+                b"1e5,1E5,1d-5,1D+05,-.5,5.;",
+                b"r[1e5]r[1E5]r[1d-5]r[1D+05]r[-.5]r[5.].",
+            ),
+            (b"3H,;,,0H;", b"t[,;,]t[]."),
+            (b"02H  ;", b"t[  ]."),
+            (b"1H\n , 2Hab\t;", b"t[\n]t[ab]."),
+            (b"3Hab", b"2"),
+            (b"3Habc", b"4"),
+            (b"3Habc ", b"4"),
+            (b"2Habc,", b"3"),
+            (b"18446744073709551617H,,", b"2"),
+            (b"4Hab;,;1", b"t[ab;,]."),
+            (b"", b"4"),
+            (b" ", b"4"),
+            (b",", b"e[]4"),
+            (b"1.2.3", b"3"),
+            (b"1 2,", b"3"),
+            (b"+,", b"3"),
+            (b"1E,", b"3"),
+            (b"H,", b"3"),
+            (b"-1Ha,", b"3"),
+            (b"1,2", b"w[1]4"),
+        ];
+        for (text, want) in cases {
+            let got = shown(alloc, text)?;
+            assert_eq!(rt; got.as_slice(), want);
+        }
+        Ok(())
     }
 }

@@ -10,14 +10,19 @@ fn blanks_before(text: &[u8]) -> usize
     ensures within { result ≤ length text.now }
     ensures value { result ≡ prefix_len is_blank text.now }
 {
-    text.iter().take_while(|b| **b == b' ' || **b == b'\t').count()
+    text.iter()
+        .take_while(|b| **b == b' ' || **b == b'\t')
+        .count()
 }
 
 fn blanks_behind(text: &[u8]) -> usize
     ensures within { result ≤ length text.now }
     ensures value { result ≡ suffix_len is_blank text.now }
 {
-    text.iter().rev().take_while(|b| **b == b' ' || **b == b'\t').count()
+    text.iter()
+        .rev()
+        .take_while(|b| **b == b' ' || **b == b'\t')
+        .count()
 }
 
 /// The text without the blanks before it.
@@ -48,7 +53,9 @@ pub fn bytes_before(text: &[u8], comma: u8, semi: u8) -> usize
     ensures within { result ≤ length text.now }
     ensures value { result ≡ bytes_before comma semi text.now }
 {
-    text.iter().take_while(|b| !(**b == comma || **b == semi)).count()
+    text.iter()
+        .take_while(|b| !(**b == comma || **b == semi))
+        .count()
 }
 
 /// The number that digits spell, or the greatest of its type.
@@ -58,7 +65,9 @@ pub fn count_of(digits: &[u8]) -> usize
 {
     let mut count: usize = 0;
     for b in digits {
-        count = count.saturating_mul(10).saturating_add(usize::from(*b - b'0'));
+        count = count
+            .saturating_mul(10)
+            .saturating_add(usize::from(*b - b'0'));
     }
     count
 }

@@ -1,4 +1,4 @@
-use Rattle.std.proofs.Common.{◌≡◌, ◌++◌, ◌∙◌, ap, subst, length}
+use Rattle.std.proofs.Common.{◌++◌, ◌∙◌, ap, subst, length}
 use Rattle.iges_fields.specs.Layout.{piece, placed, IsHeld}
 use Rattle.iges_fields.proofs.Lines.{goes_on, is_done, held_more}
 use Rattle.iges_fields.proofs.layouts.laid.Goals as goal

@@ -1,4 +1,4 @@
-use Rattle.std.proofs.Common.{◌≡◌, ◌∙◌, ap, subst}
+use Rattle.std.proofs.Common.{◌∙◌, ap, subst}
 use Rattle.iges_fields.specs.Layout.{laid, AreHeld}
 use Rattle.iges_fields.proofs.Lines.{lines_back}
 use Rattle.iges_fields.proofs.layouts.lay.Goals as goal

@@ -1,6 +1,5 @@
-use Rattle.std.proofs.Common.{rules, arith, ◌≡◌, ◌+◌, ◌-◌, ◌^◌, ◌∙◌, sym, ◌<◌, ◌≤◌, length, take, drop, List, ℕ, true, length-drop}
+use Rattle.std.proofs.Common.{rules, ◌-◌, ◌^◌, ◌∙◌, sym, ◌<◌, length, take, drop}
 use Rattle.std.proofs.lemmas.List.{take_rest}
-use Rattle.iges_fields.specs.Reading.{is_counted}
 use Rattle.iges_fields.proofs.Counts.{counted_gives}
 use Rattle.iges_fields.proofs.readers.content_at.Goals as goal
 
