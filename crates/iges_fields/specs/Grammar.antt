@@ -11,7 +11,7 @@ use Rattle.iges_fields.specs.Reading.{Reading}
 abbrev pub AreBlanks : List ℕ → Type 0
 AreBlanks text = AllByRecursion (λ b. IsTrue (is_blank b)) text
 
--- a text (IGES 5.3, 2.2.2.4: a string constant): the digits of its count, H, and that many bytes, whatever they are
+-- a text (IGES 5.3, 2.2.2.3: a string constant): the digits of its count, H, and that many bytes, whatever they are
 pub record IsText (content spelt : List ℕ) : Type 0 where
   pub digits : List ℕ
   pub are_digits : AreDigits digits

@@ -23,7 +23,7 @@ content_of (token.Whole text) = text
 content_of (token.Real text) = text
 content_of (token.Text text) = text
 
--- a text as its count, H and its bytes (IGES 5.3, 2.2.2.4); a number as it was spelt
+-- a text as its count, H and its bytes (IGES 5.3, 2.2.2.3); a number as it was spelt
 abbrev pub spelling_of : Token → List ℕ
 spelling_of token.Empty = []
 spelling_of (token.Whole text) = text
