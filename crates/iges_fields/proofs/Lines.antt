@@ -15,7 +15,7 @@ use Rattle.solid_base.specs.declared.entities.Token.TheVariants as token
 use Rattle.iges_fields.specs.Delimiters.{AreDelimiters}
 use Rattle.iges_fields.specs.Grammar.{AreBlanks, IsSpelling, delimiter}
 use Rattle.iges_fields.specs.Reading.{field_at}
-use Rattle.iges_fields.specs.Layout.{kind_of, content_of, spelling_of, IsSpelt, AreSpelt, IsHeld, AreHeld, field_of, is_last, Reads, piece, gap, placed, laid, AreLines}
+use Rattle.iges_fields.specs.Layout.{kind_of_token, content_of_token, spelling_of_token, IsSpelt, AreSpelt, IsHeld, AreHeld, field_of, is_last, Reads, piece, gap, placed, laid, AreLines}
 use Rattle.iges_fields.proofs.Numerics.{all_append}
 use Rattle.iges_fields.proofs.Written.{spelt_is_read}
 
@@ -37,7 +37,7 @@ decimal_value =
     decimal_by_steps (λ n ds. number_of ds ≡ n) (λ n small. omega arith)
     (λ n ds large h. fold_push (λ a x. a * 10 + (x - 48)) 0 ds (48 + n % 10) ∙ rw h (omega arith))
 
-spells : (t : Token) → IsSpelt t → IsHeld t → IsSpelling (kind_of t) (content_of t) (spelling_of t)
+spells : (t : Token) → IsSpelt t → IsHeld t → IsSpelling (kind_of_token t) (content_of_token t) (spelling_of_token t)
 spells token.Empty h s = (refl, refl)
 spells (token.Whole text) h s = (h, refl)
 spells (token.Real text) h s = (h, refl)
@@ -47,9 +47,9 @@ piece_again : (comma semi g : ℕ) (t : Token) (more : List ℕ) (ended : Bool) 
     → field_at comma semi ((replicate g 32 ++ piece (delimiter comma semi ended) t) ++ more) ≡ Ok (field_of t more ended)
 piece_again comma semi g t more ended law h s =
     let d = delimiter comma semi ended in
-    let glue : (replicate g 32 ++ (spelling_of t ++ d ∷ [])) ++ more ≡ replicate g 32 ++ (spelling_of t ++ d ∷ more) = simp append_assoc in
+    let glue : (replicate g 32 ++ (spelling_of_token t ++ d ∷ [])) ++ more ≡ replicate g 32 ++ (spelling_of_token t ++ d ∷ more) = simp append_assoc in
     spelt_is_read comma semi ((replicate g 32 ++ piece d t) ++ more) (field_of t more ended) law
-    (record { before = replicate g 32; spelt = spelling_of t; behind = []; blank_before = blanks g; spells = spells t h s; blank_behind = tt; is = glue })
+    (record { before = replicate g 32; spelt = spelling_of_token t; behind = []; blank_before = blanks g; spells = spells t h s; blank_behind = tt; is = glue })
 
 pub laid_reads : (width comma semi used : ℕ) (t : Token) (ts : List Token) (behind : List ℕ) → AreDelimiters comma semi → AreSpelt (t ∷ ts) → AreHeld (t ∷ ts)
     → Reads comma semi (laid width comma semi used (t ∷ ts) ++ behind) (t ∷ ts)

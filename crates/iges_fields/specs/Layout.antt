@@ -11,24 +11,24 @@ use Rattle.iges_fields.specs.Reading.{Reading, field_at}
 
 -- ---- tokens as fields
 
-abbrev pub kind_of : Token → FieldKind
-kind_of token.Empty = kind.Empty
-kind_of (token.Whole text) = kind.Whole
-kind_of (token.Real text) = kind.Real
-kind_of (token.Text text) = kind.Text
+abbrev pub kind_of_token : Token → FieldKind
+kind_of_token token.Empty = kind.Empty
+kind_of_token (token.Whole text) = kind.Whole
+kind_of_token (token.Real text) = kind.Real
+kind_of_token (token.Text text) = kind.Text
 
-abbrev pub content_of : Token → List ℕ
-content_of token.Empty = []
-content_of (token.Whole text) = text
-content_of (token.Real text) = text
-content_of (token.Text text) = text
+abbrev pub content_of_token : Token → List ℕ
+content_of_token token.Empty = []
+content_of_token (token.Whole text) = text
+content_of_token (token.Real text) = text
+content_of_token (token.Text text) = text
 
 -- a text as its count, H and its bytes (IGES 5.3, 2.2.2.3); a number as it was spelt
-abbrev pub spelling_of : Token → List ℕ
-spelling_of token.Empty = []
-spelling_of (token.Whole text) = text
-spelling_of (token.Real text) = text
-spelling_of (token.Text text) = decimal (length text) ++ 72 ∷ text
+abbrev pub spelling_of_token : Token → List ℕ
+spelling_of_token token.Empty = []
+spelling_of_token (token.Whole text) = text
+spelling_of_token (token.Real text) = text
+spelling_of_token (token.Text text) = decimal (length text) ++ 72 ∷ text
 
 -- a whole and a real number are spelt as such
 abbrev pub IsSpelt : Token → Type 0
@@ -52,7 +52,7 @@ AreHeld tokens = AllByRecursion IsHeld tokens
 
 -- the field that a token is read as
 abbrev pub field_of : Token → List ℕ → Bool → Reading
-field_of t rest ended = record { kind = kind_of t; text = content_of t; rest = rest; ended = ended }
+field_of t rest ended = record { kind = kind_of_token t; text = content_of_token t; rest = rest; ended = ended }
 
 -- whether no token stands behind
 abbrev pub is_last : List Token → Bool
@@ -69,7 +69,7 @@ Reads comma semi text (t ∷ u ∷ ts) = (rest : List ℕ) × (field_at comma se
 
 -- a token with the delimiter behind it
 abbrev pub piece : ℕ → Token → List ℕ
-piece d t = spelling_of t ++ d ∷ []
+piece d t = spelling_of_token t ++ d ∷ []
 
 -- the blanks before a piece of so many bytes, where so many bytes are laid before it: none where it fits on the line or the line is still empty, else as many as fill the line
 abbrev pub gap : ℕ → ℕ → ℕ → ℕ

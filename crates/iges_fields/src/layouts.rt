@@ -2,14 +2,14 @@ ghost use Rattle.std.specs.Prelude.{◌≡◌, ◌⊎◌, ℕ, ◌+◌, ◌-◌,
 ghost use Rattle.std.specs.List.{concat};
 ghost use Rattle.iges_fields.specs.Delimiters.{AreDelimiters};
 ghost use Rattle.iges_fields.specs.Grammar.{delimiter};
-ghost use Rattle.iges_fields.specs.Layout.{spelling_of, piece, gap, placed, laid, AreSpelt, AreHeld, IsHeld, IsSpelt, AreLines, Reads};
+ghost use Rattle.iges_fields.specs.Layout.{spelling_of_token, piece, gap, placed, laid, AreSpelt, AreHeld, IsHeld, IsSpelt, AreLines, Reads};
 
 use itoa::Buffer;
 use solid_base::{Bytes, Lines, Token, Tokens};
 use std::alloc::{AllocError, Global};
 
 fn push_spelling(out: &mut Vec<u8>, token: &Token) -> Result<(), AllocError>
-    ensures spelt { OnOk result (out.new.items ≡ out.old.items ++ spelling_of token.now) }
+    ensures spelt { OnOk result (out.new.items ≡ out.old.items ++ spelling_of_token token.now) }
     ensures held { OnOk result (IsHeld token.now) }
 {
     match token {
