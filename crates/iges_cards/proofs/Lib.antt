@@ -1,4 +1,8 @@
+pub mod CardLaws
 pub mod Digits
 pub mod LineLaws
 pub mod NumberLaws
+pub mod SeriesLaws
+pub mod Steps
+pub mod TakesLaws
 pub mod Tests
