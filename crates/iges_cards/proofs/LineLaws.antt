@@ -5,7 +5,7 @@ use Rattle.std.proofs.lemmas.List.{take-append-drop}
 use Rattle.std.proofs.lemmas.List.Elements.{recursion_from_All}
 use Rattle.std.proofs.Math.Seq.{drop-cons}
 use Rattle.iges_cards.specs.Lines.{IsOneLine, IsLine, put_in_front, line_texts, is_feed, line_of}
-use Rattle.iges_cards.proofs.Tests.{both, and_false, same_test, test_other, test_same, test_not}
+use Rattle.iges_cards.proofs.CheckLaws.{both, and_false, same_test, test_other, test_same, test_not}
 
 -- ---- the texts of lines
 

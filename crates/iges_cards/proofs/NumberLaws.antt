@@ -8,7 +8,7 @@ use Rattle.solid_base.specs.Digits.{is_digit, AreDigits, number_of}
 use Rattle.iges_cards.specs.Lines.{is_blank, AreBlanks}
 use Rattle.iges_cards.specs.Numbers.{IsNumber, behind_blanks, number_before, number_in}
 use Rattle.iges_cards.proofs.Digits.{number_of-below}
-use Rattle.iges_cards.proofs.Tests.{both, turned, passed, test_not}
+use Rattle.iges_cards.proofs.CheckLaws.{both, turned, passed, test_not}
 
 pub all_test : (p : ℕ → Bool) (xs : List ℕ) → AllByRecursion (λ b. IsTrue (p b)) xs → list_all p xs ≡ true
 all_test p [] h = refl

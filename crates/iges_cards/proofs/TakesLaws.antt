@@ -12,12 +12,12 @@ use Rattle.iges_cards.specs.Checks.{◌>>=◌, card_in, terminated}
 use Rattle.iges_cards.specs.Grammar.{IsNumbered, IsCard, AreCards, IsTerminate, HasGroups, AreSections, counts_of, IsFixedForm}
 use Rattle.iges_cards.specs.Lines.{IsOneLine, IsLine, line_texts, line_of}
 use Rattle.iges_cards.specs.Numbers.{IsNumber}
-use Rattle.iges_cards.specs.Reading.{keep, is_terminate, no_cards, read_from, cards_in}
-use Rattle.iges_cards.specs.Sections.{letter_of, may_follow, width_of, count_of, one_more, no_lines}
+use Rattle.iges_cards.specs.Reading.{keep, no_cards, read_from, cards_in}
+use Rattle.iges_cards.specs.Sections.{letter_of, may_follow, width_of, is_terminate, count_of, one_more, no_lines}
 use Rattle.iges_cards.proofs.CardLaws.{IsNext, card_takes, terminated_takes}
 use Rattle.iges_cards.proofs.LineLaws.{IsEnded, AreTexts, are_texts, texts_joined, line_takes, line_open}
 use Rattle.iges_cards.proofs.SeriesLaws.{Spells-more, none_spelt}
-use Rattle.iges_cards.proofs.Tests.{both_gave}
+use Rattle.iges_cards.proofs.CheckLaws.{both_gave}
 
 -- ---- what was read of a file
 

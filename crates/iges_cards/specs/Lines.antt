@@ -47,3 +47,10 @@ is_feed (b ∷ c ∷ bs) = false
 unfoldable pub line_of : List ℕ → List ℕ
 line_of [] = []
 line_of (b ∷ bs) = cond (is_feed (b ∷ bs)) [] (cond ((b == 13) && is_feed bs) [] (b ∷ line_of bs))
+
+-- the first line of the bytes without its line end, and the bytes behind it
+pub record IsFirstLine (bytes line rest : List ℕ) : Type 0 where
+  pub text : List ℕ
+  pub split : bytes ≡ text ++ rest
+  pub texts : line_texts bytes ≡ text ∷ line_texts rest
+  pub without_end : line ≡ line_of text

@@ -8,7 +8,7 @@ use Rattle.iges_cards.specs.declared.sections.Section.{Section}
 use Rattle.iges_cards.specs.declared.sections.Section.TheVariants as section
 use Rattle.iges_cards.specs.Checks.{◌>>=◌, card_in, terminated}
 use Rattle.iges_cards.specs.Lines.{line_texts, line_of}
-use Rattle.iges_cards.specs.Sections.{width_of, one_more, no_lines}
+use Rattle.iges_cards.specs.Sections.{width_of, is_terminate, one_more, no_lines}
 
 -- the columns that are kept of a line more
 abbrev pub keep : Section → List ℕ → Cards → Cards
@@ -17,13 +17,6 @@ keep section.Global kept cards = record cards { global = cards.global ++ kept }
 keep section.Directory kept cards = record cards { directory = cards.directory ++ kept ∷ [] }
 keep section.Parameter kept cards = record cards { params = cards.params ++ kept ∷ [] }
 keep section.Terminate kept cards = cards
-
-abbrev pub is_terminate : Section → Bool
-is_terminate section.Terminate = true
-is_terminate section.Start = false
-is_terminate section.Global = false
-is_terminate section.Directory = false
-is_terminate section.Parameter = false
 
 abbrev pub no_cards : Cards
 no_cards = record { start = []; global = []; directory = []; params = []; end = 0 }

@@ -46,6 +46,13 @@ may_follow (Some section.Parameter) section.Parameter = true
 may_follow (Some section.Parameter) section.Terminate = true
 may_follow (Some section.Terminate) next = false
 
+abbrev pub is_terminate : Section → Bool
+is_terminate section.Terminate = true
+is_terminate section.Start = false
+is_terminate section.Global = false
+is_terminate section.Directory = false
+is_terminate section.Parameter = false
+
 -- how many columns of a section's lines are kept: the text columns, which are 72, all columns of a directory line, and
 -- those before the back pointer of a parameter line
 abbrev pub width_of : Section → ℕ

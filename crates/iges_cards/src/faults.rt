@@ -11,7 +11,7 @@ use thiserror::Error;
 pub enum CardFault {
     /// Memory was wanting.
     #[error("memory is wanting")]
-    Memory(#[from] AllocError),
+    Memory(AllocError),
     /// The first line has C or B in column 73.
     #[error("the file isn't of the fixed form")]
     NotFixed,
@@ -43,6 +43,16 @@ pub enum CardFault {
         /// How many lines there are.
         found: u32,
     },
+}
+
+impl From<AllocError> for CardFault {
+    ghost use Rattle.iges_cards.specs.declared.faults.CardFault.TheVariants.{Memory};
+
+    ghost from_gives = { λ e fault. fault ≡ Memory e };
+
+    fn from(e: AllocError) -> CardFault {
+        CardFault::Memory(e)
+    }
 }
 
 fn word(alloc: Global, text: &[u8]) -> Result<Bytes, AllocError>

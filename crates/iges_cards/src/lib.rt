@@ -5,6 +5,7 @@
 
 mod checks;
 mod faults;
+mod laws;
 mod lines;
 mod numbers;
 mod reader;
@@ -13,4 +14,5 @@ mod sections;
 mod tests;
 
 pub use faults::CardFault;
+pub use laws::one_reading;
 pub use reader::{Cards, read_cards};

@@ -1,6 +1,6 @@
-ghost use Rattle.std.specs.Prelude.{◌≡◌, ◌≢◌, ◌<◌, ◌++◌, ◌∷◌, [], ℕ, List, length, take, slice_index, All, IfSome, IfNone};
+ghost use Rattle.std.specs.Prelude.{◌≡◌, ◌≢◌, ◌<◌, ◌++◌, ◌∷◌, [], length, take, slice_index, All, IfSome, IfNone};
 ghost use Rattle.std.specs.List.{list_all};
-ghost use Rattle.iges_cards.specs.Lines.{IsOneLine, is_blank, line_of, line_texts};
+ghost use Rattle.iges_cards.specs.Lines.{IsOneLine, IsFirstLine, is_blank, line_of};
 
 /// Whether there are blanks alone, spaces or tabs.
 pub fn are_blanks(text: &[u8]) -> bool
@@ -32,7 +32,8 @@ fn without_return(line: &[u8]) -> &[u8]
 /// line end.
 pub fn split_line(bytes: &[u8]) -> (&[u8], &[u8])
     requires { 0 < length bytes.now }
-    ensures { (text : List ℕ) × (bytes.now ≡ text ++ result.1.now) × (line_texts bytes.now ≡ text ∷ line_texts result.1.now) × (result.0.now ≡ line_of text) }
+    ensures first { IsFirstLine bytes.now result.0.now result.1.now }
+    ensures shorter { length result.1.now < length bytes.now }
 {
     match place_of_feed(bytes) {
         Some(place) => (without_return(&bytes[..place]), &bytes[place + 1..]),

@@ -82,7 +82,7 @@ pub fn read_cards(alloc: Global, bytes: &[u8]) -> Result<Cards, CardFault>
         let (line, behind) = split_line(rest);
         rest = behind;
         let (section, columns) = card_in(before, counts, line)?;
-        if section == Section::Terminate {
+        if section.is_terminate() {
             check_counts(counts, columns)?;
             cards.end = bytes.len() - rest.len();
             return Ok(cards);

@@ -1,8 +1,8 @@
 ghost use Rattle.std.specs.Prelude.{◌≡◌, ◌≤◌, ◌<◌, ◌+◌};
-ghost use Rattle.iges_cards.specs.Sections.{section_of, letter_of, may_follow, width_of, count_of, one_more, lines_in, no_lines, AreFew};
+ghost use Rattle.iges_cards.specs.Sections.{section_of, letter_of, may_follow, is_terminate, width_of, count_of, one_more, lines_in, no_lines, AreFew};
 
 /// A section of a file.
-#[derive(Clone, Copy, Debug, PartialEq, Eq)]
+#[derive(Clone, Copy, Debug)]
 pub enum Section {
     Start,
     Global,
@@ -37,6 +37,13 @@ impl Section {
             Section::Parameter => b'P',
             Section::Terminate => b'T',
         }
+    }
+
+    /// Whether it is the section of the terminate line.
+    pub fn is_terminate(self) -> bool
+        ensures { result ≡ is_terminate self }
+    {
+        matches!(self, Section::Terminate)
     }
 
     /// How many columns are kept of a line of the section.

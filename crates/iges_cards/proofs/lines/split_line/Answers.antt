@@ -5,14 +5,14 @@ use Rattle.iges_cards.specs.Lines.{line_texts}
 use Rattle.iges_cards.proofs.LineLaws.{feed_at, texts_last, line_open}
 use Rattle.iges_cards.proofs.lines.split_line.Goals as goal
 
-pub returns-in-Some : goal.returns-in-Some
-returns-in-Some c =
+pub returns-in-Some-clause-first : goal.returns-in-Some-clause-first
+returns-in-Some-clause-first c =
     let found = c.in-Some.ensures.found in
     let (whole, texts) = feed_at c.args.bytes.now c.in-Some.place found.0 found.1 c.in-Some.ensures.before in
-    rw take_rest (take c.in-Some.place c.args.bytes.now ++ 10 ∷ [], whole, texts, c.without_return.ensures)
+    rw take_rest (record { text = take c.in-Some.place c.args.bytes.now ++ 10 ∷ []; split = whole; texts = texts; without_end = c.without_return.ensures })
 
-pub returns-in-None : goal.returns-in-None
+pub returns-in-None-clause-first : goal.returns-in-None-clause-first
 unfolding line_texts
-returns-in-None c =
+returns-in-None-clause-first c =
     let one = recursion_from_All (λ b. b ≢ 10) c.args.bytes.now c.in-None.ensures.none in
-    (c.args.bytes.now, sym (append-nil c.args.bytes.now), texts_last c.args.bytes.now c.requires one, sym (line_open c.args.bytes.now one))
+    record { text = c.args.bytes.now; split = sym (append-nil c.args.bytes.now); texts = texts_last c.args.bytes.now c.requires one; without_end = sym (line_open c.args.bytes.now one) }
