@@ -1,13 +1,12 @@
 -- A file of the grammar is read.
-use Rattle.std.proofs.Common.{◌≡◌, ℕ, zero, suc, ◌+◌, ◌<◌, ◌≤◌, ◌⊎◌, inl, inr, List, [], ◌∷◌, ◌++◌, Bool, true, false, length, take, drop, Option, Some, None, Result, Ok, Err, refl, sym, ap, subst, ◌∙◌, arith, append_assoc, append-nil, length-append, zero-add}
+use Rattle.std.proofs.Common.{◌≡◌, ℕ, suc, ◌+◌, ◌<◌, ◌⊎◌, inl, inr, List, [], ◌∷◌, ◌++◌, true, false, length, drop, Option, Some, None, Ok, refl, sym, ap, subst, ◌∙◌, arith, append_assoc, append-nil, length-append, zero-add}
 use Rattle.std.specs.List.{concat}
-use Rattle.iges_cards.specs.declared.faults.CardFault.{CardFault}
 use Rattle.iges_cards.specs.declared.reader.Cards.{Cards}
 use Rattle.iges_cards.specs.declared.sections.Counts.{Counts}
 use Rattle.iges_cards.specs.declared.sections.Section.{Section}
 use Rattle.iges_cards.specs.declared.sections.Section.TheVariants as section
 use Rattle.iges_cards.specs.Checks.{card_in}
-use Rattle.iges_cards.specs.Grammar.{IsCard, AreCards, IsTerminate, AreSections, counts_of, IsFixedForm}
+use Rattle.iges_cards.specs.Grammar.{IsCard, AreCards, IsTerminate, counts_of, IsFixedForm}
 use Rattle.iges_cards.specs.Lines.{IsOneLine, IsLine, line_texts, line_of}
 use Rattle.iges_cards.specs.Numbers.{IsNumber}
 use Rattle.iges_cards.specs.Reading.{keep, no_cards, read_from, cards_in}
@@ -51,9 +50,9 @@ runs next (x ∷ xs) k text rest before counts cards place other again may count
     let (first, more, whole, is, others) = h in
     let columns = is.columns in
     let texts : line_texts (text ++ rest) ≡ first ∷ line_texts (more ++ rest) =
-        ap (λ t. line_texts (t ++ rest)) whole ∙ ap line_texts (append_assoc first more rest) ∙ texts_again first is.line (more ++ rest) is.is_line in
+    ap (λ t. line_texts (t ++ rest)) whole ∙ ap line_texts (append_assoc first more rest) ∙ texts_again first is.line (more ++ rest) is.is_line in
     let here : card_in before counts (line_of first) ≡ Ok (next, columns) = ap (card_in before counts) (line_again first is.line is.is_line) ∙ card_again before counts next columns is.line
-        (record { columns_of = is.numbered.columns_of; follows = may (omega arith); letter = is.numbered.letter; sequence = subst (λ n. IsNumber n (drop 73 columns)) (sym count) is.numbered.sequence }) in
+    (record { columns_of = is.numbered.columns_of; follows = may (omega arith); letter = is.numbered.letter; sequence = subst (λ n. IsNumber n (drop 73 columns)) (sym count) is.numbered.sequence }) in
     let next_count : count_of (one_more next counts) next + 1 ≡ suc k = omega (arith, count_more next counts other) in
     let behind : (place + length first) + length more ≡ place + length text = omega (arith, ap length whole, length-append first more) in
     ap (read_from before counts cards place) texts
@@ -146,7 +145,7 @@ reads_parameter start globals directory params text rest place first h =
     let c = counts_of start globals directory [] in
     let before = before_all section.Directory directory (Some section.Global) in
     runs section.Parameter params 1 text rest before c (read_so_far start (concat globals) directory []) place refl refl
-        (λ some. ap (λ b. may_follow b section.Parameter) (before_some section.Directory directory (Some section.Global) (first some))) refl h
+    (λ some. ap (λ b. may_follow b section.Parameter) (before_some section.Directory directory (Some section.Global) (first some))) refl h
     ∙ (rw (parameter_counts params c, parameter_cards params (read_so_far start (concat globals) directory []), zero-add (length params)) refl)
 
 may_end : (directory params : List (List ℕ)) → may_follow (before_all section.Parameter params (before_all section.Directory directory (Some section.Global))) section.Terminate ≡ true
@@ -171,7 +170,7 @@ reads_terminate before counts cards place t rest may h =
     let some : 0 < length h.line = omega (arith, ap length n.columns_of.spelt, length-append h.columns n.columns_of.tail, n.columns_of.eighty) in
     let (texts, line) = terminate_text t rest h.line some h.is_line in
     let here : card_in before counts (line_of t) ≡ Ok (section.Terminate, h.columns) = ap (card_in before counts) line ∙ card_again before counts section.Terminate h.columns h.line
-        (record { columns_of = n.columns_of; follows = may; letter = n.letter; sequence = n.sequence }) in
+    (record { columns_of = n.columns_of; follows = may; letter = n.letter; sequence = n.sequence }) in
     ap (read_from before counts cards place) texts ∙ reads_end before counts cards place t (line_texts rest) h.columns counts here (terminated_again counts h.columns h.groups)
 
 regroup : (s g d p t : List ℕ) → (((s ++ g) ++ d) ++ p) ++ t ≡ s ++ (g ++ (d ++ (p ++ t)))
@@ -188,10 +187,16 @@ cards_again bytes cards h =
     let s = h.sections in
     let last = h.terminate_text ++ h.rest in
     let whole : bytes ≡ s.start_text ++ (s.global_text ++ (s.directory_text ++ (s.parameter_text ++ last))) =
-        h.spelt ∙ ap (λ t. t ++ last) s.spelt ∙ regroup s.start_text s.global_text s.directory_text s.parameter_text last in
+    h.spelt ∙ ap (λ t. t ++ last) s.spelt ∙ regroup s.start_text s.global_text s.directory_text s.parameter_text last in
     let place = (((0 + length s.start_text) + length s.global_text) + length s.directory_text) + length s.parameter_text in
-    let end : cards.end ≡ place + length h.terminate_text = omega (arith, h.end, ap length s.spelt, length-append ((s.start_text ++ s.global_text) ++ s.directory_text) s.parameter_text,
-        length-append (s.start_text ++ s.global_text) s.directory_text, length-append s.start_text s.global_text) in
+    let end : cards.end ≡ place + length h.terminate_text = omega (
+      arith,
+      h.end,
+      ap length s.spelt,
+      length-append ((s.start_text ++ s.global_text) ++ s.directory_text) s.parameter_text,
+      length-append (s.start_text ++ s.global_text) s.directory_text,
+      length-append s.start_text s.global_text,
+    ) in
     ap (λ b. read_from None no_lines no_cards 0 (line_texts b)) whole
     ∙ reads_start cards.start s.start_text _ h.some_start s.start_lines
     ∙ reads_global cards.start h.globals s.global_text _ _ h.some_global s.global_lines

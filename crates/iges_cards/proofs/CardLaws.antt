@@ -1,16 +1,15 @@
 -- One line: what the grammar of cards allows is read, and what is read it allows.
-use Rattle.std.proofs.Common.{◌≡◌, ◌≢◌, ℕ, zero, suc, ◌+◌, ◌<◌, ◌≤◌, List, [], ◌∷◌, ◌++◌, Bool, true, false, cond, not, ◌&&◌, ◌==◌, nat_lt, length, take, drop, slice_index, Option, Some, None, Result, Ok, Err, refl, sym, ap, subst, ◌∙◌, arith, length-append}
+use Rattle.std.proofs.Common.{◌≡◌, ℕ, ◌+◌, ◌<◌, ◌≤◌, List, [], ◌∷◌, ◌++◌, Bool, true, false, cond, ◌==◌, nat_lt, length, take, drop, slice_index, Option, Some, None, Ok, Err, refl, sym, ap, subst, ◌∙◌, arith, length-append}
 use Rattle.std.specs.List.{list_all}
 use Rattle.std.proofs.lemmas.List.{length-take, length-drop, take-append-drop}
 use Rattle.std.proofs.Math.Seq.{take-append_seam, drop-append_seam}
-use Rattle.iges_cards.specs.declared.faults.CardFault.{CardFault}
 use Rattle.iges_cards.specs.declared.faults.CardFault.TheVariants as fault
 use Rattle.iges_cards.specs.declared.sections.Counts.{Counts}
 use Rattle.iges_cards.specs.declared.sections.Section.{Section}
 use Rattle.iges_cards.specs.declared.sections.Section.TheVariants as section
 use Rattle.iges_cards.specs.Checks.{◌>>=◌, columns_in, is_other_form, allowed, section_behind, card_in, group_in, told, told_in, same_count, terminated}
 use Rattle.iges_cards.specs.Grammar.{IsGroup, HasGroups}
-use Rattle.iges_cards.specs.Lines.{is_blank, AreBlanks, HasColumns}
+use Rattle.iges_cards.specs.Lines.{is_blank, HasColumns}
 use Rattle.iges_cards.specs.Numbers.{IsNumber, number_in, is_same}
 use Rattle.iges_cards.specs.Sections.{letter_of, section_of, may_follow, count_of, lines_in, one_more, AreFew}
 use Rattle.iges_cards.proofs.NumberLaws.{all_test, test_all, number_again, number_takes, number_below}
@@ -159,8 +158,12 @@ group_takes named count (b ∷ bs) h =
 told_again : (counts : Counts) (columns : List ℕ) → HasGroups counts columns → told_in columns ≡ Ok counts
 unfolding told_in
 told_again counts columns h =
-    rw (group_again section.Start counts.start _ h.start, group_again section.Global counts.global _ h.global,
-        group_again section.Directory counts.directory _ h.directory, group_again section.Parameter counts.parameter _ h.parameter) refl
+    rw (
+      group_again section.Start counts.start _ h.start,
+      group_again section.Global counts.global _ h.global,
+      group_again section.Directory counts.directory _ h.directory,
+      group_again section.Parameter counts.parameter _ h.parameter,
+    ) refl
 
 told_all : (s g d p : Option ℕ) (counts : Counts) → told s g d p ≡ Ok counts → (s ≡ Some counts.start) × (g ≡ Some counts.global) × (d ≡ Some counts.directory) × (p ≡ Some counts.parameter)
 told_all (Some s) (Some g) (Some d) (Some p) counts h =
@@ -210,5 +213,5 @@ terminated_takes found columns x h =
     let (g, global, m3) = both_gave (same_count section.Global found told) (λ _. same_count section.Directory found told >>= λ _. same_count section.Parameter found told) x m2 in
     let (d, directory, parameter) = both_gave (same_count section.Directory found told) (λ _. same_count section.Parameter found told) x m3 in
     let same : told ≡ found = all_counts found told (count_takes section.Start found told s start) (count_takes section.Global found told g global)
-        (count_takes section.Directory found told d directory) (count_takes section.Parameter found told x parameter) in
+    (count_takes section.Directory found told d directory) (count_takes section.Parameter found told x parameter) in
     subst (λ c. HasGroups c columns) same (told_takes told columns groups)

@@ -1,5 +1,5 @@
 -- Tests, and checks that give something or a fault.
-use Rattle.std.proofs.Common.{◌≡◌, ◌≢◌, ℕ, ◌<◌, ◌≤◌, Bool, true, false, cond, not, ◌&&◌, ◌||◌, ◌==◌, nat_lt, nat_le, Option, None, Some, Result, Ok, Err, refl, ap, arith}
+use Rattle.std.proofs.Common.{◌≡◌, ◌≢◌, ℕ, ◌<◌, ◌≤◌, Bool, true, false, cond, not, ◌&&◌, ◌==◌, nat_lt, Option, None, Some, Result, Ok, Err, refl, ap, arith}
 use Rattle.iges_cards.specs.declared.faults.CardFault.{CardFault}
 use Rattle.iges_cards.specs.Checks.{◌>>=◌}
 

@@ -45,10 +45,10 @@ card_tells : (before : Option Section) (counts : Counts) (line : List ℕ) → T
 unfolding card_in
 card_tells before counts line =
     next_tells {A = List ℕ} {B = Section × List ℕ} (columns_in (lines_in counts + 1) line)
-        (λ columns. section_behind (lines_in counts + 1) before (slice_index columns 72) >>= λ next. cond (is_same (number_in (drop 73 columns)) (count_of counts next + 1)) (Ok (next, columns)) (Err (fault.BadSequence (lines_in counts + 1))))
-        (columns_tell (lines_in counts + 1) line) (λ columns.
+    (λ columns. section_behind (lines_in counts + 1) before (slice_index columns 72) >>= λ next. cond (is_same (number_in (drop 73 columns)) (count_of counts next + 1)) (Ok (next, columns)) (Err (fault.BadSequence (lines_in counts + 1))))
+    (columns_tell (lines_in counts + 1) line) (λ columns.
     next_tells {A = Section} {B = Section × List ℕ} (section_behind (lines_in counts + 1) before (slice_index columns 72))
-        (λ next. cond (is_same (number_in (drop 73 columns)) (count_of counts next + 1)) (Ok (next, columns)) (Err (fault.BadSequence (lines_in counts + 1)))) (section_tells (lines_in counts + 1) before (slice_index columns 72)) (λ next.
+    (λ next. cond (is_same (number_in (drop 73 columns)) (count_of counts next + 1)) (Ok (next, columns)) (Err (fault.BadSequence (lines_in counts + 1)))) (section_tells (lines_in counts + 1) before (slice_index columns 72)) (λ next.
     either_tells {A = Section × List ℕ} (is_same (number_in (drop 73 columns)) (count_of counts next + 1)) (Ok (next, columns)) (Err (fault.BadSequence (lines_in counts + 1))) tt (λ e. omega arith)))
 
 told_tells : (s g d p : Option ℕ) → TellsOfText (told s g d p)
@@ -77,20 +77,20 @@ terminated_tells : (found : Counts) (columns : List ℕ) → TellsOfText (termin
 unfolding terminated
 terminated_tells found columns =
     next_tells (told_in columns) (λ named. same_count section.Start found named >>= λ _. same_count section.Global found named >>= λ _. same_count section.Directory found named >>= λ _. same_count section.Parameter found named)
-        (groups_tell columns) (λ named. counts_tell found named)
+    (groups_tell columns) (λ named. counts_tell found named)
 
 reading_tells : (texts : List (List ℕ)) (before : Option Section) (counts : Counts) (cards : Cards) (place : ℕ) → TellsOfText (read_from before counts cards place texts)
 unfolding read_from
 reading_tells [] before counts cards place = λ e. omega arith
 reading_tells (text ∷ texts) before counts cards place =
     next_tells {A = Section × List ℕ} {B = Cards} (card_in before counts (line_of text))
-        (λ card. cond (is_terminate card.0) (terminated counts card.1 >>= λ _. Ok (record cards { end = place + length text }))
-            (read_from (Some card.0) (one_more card.0 counts) (keep card.0 (take (width_of card.0) card.1) cards) (place + length text) texts))
-        (card_tells before counts (line_of text)) (λ card.
+    (λ card. cond (is_terminate card.0) (terminated counts card.1 >>= λ _. Ok (record cards { end = place + length text }))
+    (read_from (Some card.0) (one_more card.0 counts) (keep card.0 (take (width_of card.0) card.1) cards) (place + length text) texts))
+    (card_tells before counts (line_of text)) (λ card.
     either_tells {A = Cards} (is_terminate card.0) (terminated counts card.1 >>= λ _. Ok (record cards { end = place + length text }))
-        (read_from (Some card.0) (one_more card.0 counts) (keep card.0 (take (width_of card.0) card.1) cards) (place + length text) texts)
-        (next_tells {A = Counts} {B = Cards} (terminated counts card.1) (λ _. Ok (record cards { end = place + length text })) (terminated_tells counts card.1) (λ _. tt))
-        (reading_tells texts (Some card.0) (one_more card.0 counts) (keep card.0 (take (width_of card.0) card.1) cards) (place + length text)))
+    (read_from (Some card.0) (one_more card.0 counts) (keep card.0 (take (width_of card.0) card.1) cards) (place + length text) texts)
+    (next_tells {A = Counts} {B = Cards} (terminated counts card.1) (λ _. Ok (record cards { end = place + length text })) (terminated_tells counts card.1) (λ _. tt))
+    (reading_tells texts (Some card.0) (one_more card.0 counts) (keep card.0 (take (width_of card.0) card.1) cards) (place + length text)))
 
 found_of_text : {A : Type 0} (o : Result A CardFault) (f : CardFault) → o ≡ Err f → TellsOfText o → IsOfText f
 found_of_text (Ok x) f e h = cc

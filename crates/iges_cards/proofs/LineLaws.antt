@@ -1,11 +1,11 @@
 -- Laws of lines and of their ends.
-use Rattle.std.proofs.Common.{◌≡◌, ◌≢◌, ℕ, ◌+◌, ◌<◌, ◌≤◌, ◌⊎◌, inl, inr, List, [], ◌∷◌, ◌++◌, Bool, true, false, cond, ◌&&◌, ◌==◌, length, take, drop, slice_index, All, refl, sym, ap, subst, ◌∙◌, arith, append_assoc, append-nil, length-append, add-one, suc}
+use Rattle.std.proofs.Common.{◌≡◌, ◌≢◌, ℕ, ◌+◌, ◌<◌, ◌≤◌, ◌⊎◌, inl, inr, List, [], ◌∷◌, ◌++◌, Bool, true, false, cond, ◌&&◌, ◌==◌, length, take, drop, slice_index, All, refl, sym, ap, subst, ◌∙◌, arith, append_assoc, length-append, add-one, suc}
 use Rattle.std.specs.List.{concat}
 use Rattle.std.proofs.lemmas.List.{take-append-drop}
 use Rattle.std.proofs.lemmas.List.Elements.{recursion_from_All}
 use Rattle.std.proofs.Math.Seq.{drop-cons}
 use Rattle.iges_cards.specs.Lines.{IsOneLine, IsLine, put_in_front, line_texts, is_feed, line_of}
-use Rattle.iges_cards.proofs.CheckLaws.{both, and_false, same_test, test_other, test_same, test_not}
+use Rattle.iges_cards.proofs.CheckLaws.{and_false, test_other, test_same, test_not}
 
 -- ---- the texts of lines
 
@@ -69,8 +69,8 @@ line_return (b ∷ bs) =
 pub line_again : (text line : List ℕ) → IsLine text line → line_of text ≡ line
 line_again text line h =
     elim h.ended [
-      inl return ↦ ap line_of return ∙ line_return line
-    | inr plain ↦ ap line_of plain.0 ∙ line_plain line h.one_line plain.1
+      | inl return ↦ ap line_of return ∙ line_return line
+      | inr plain ↦ ap line_of plain.0 ∙ line_plain line h.one_line plain.1
     ]
 
 -- ---- where LF stands
@@ -79,9 +79,10 @@ pub feed_at : (bytes : List ℕ) (n : ℕ) → n < length bytes → slice_index 
     → (bytes ≡ (take n bytes ++ 10 ∷ []) ++ drop (n + 1) bytes) × (line_texts bytes ≡ (take n bytes ++ 10 ∷ []) ∷ line_texts (drop (n + 1) bytes))
 feed_at bytes n within is before =
     let behind : drop n bytes ≡ 10 ∷ drop (n + 1) bytes = rw add-one (drop-cons bytes n 0 within ∙ ap (λ b. b ∷ drop (suc n) bytes) is) in
-    let whole : bytes ≡ take n bytes ++ 10 ∷ drop (n + 1) bytes = sym (take-append-drop n bytes) ∙ ap (λ l. take n bytes ++ l) behind in
-    (whole ∙ sym (append_assoc (take n bytes) (10 ∷ []) (drop (n + 1) bytes)),
-     ap line_texts whole ∙ texts_cut (take n bytes) (drop (n + 1) bytes) (recursion_from_All (λ b. b ≢ 10) (take n bytes) before))
+    let whole : bytes ≡ take n bytes ++ 10 ∷ drop (n + 1) bytes = sym (take-append-drop n bytes) ∙ ap (λ l. take n bytes ++ l) behind in (
+      whole ∙ sym (append_assoc (take n bytes) (10 ∷ []) (drop (n + 1) bytes)),
+      ap line_texts whole ∙ texts_cut (take n bytes) (drop (n + 1) bytes) (recursion_from_All (λ b. b ≢ 10) (take n bytes) before),
+    )
 
 -- ---- the texts of bytes
 
@@ -149,9 +150,9 @@ unfolding EndsInReturn
 ends_in_return [] = inr nothing
 ends_in_return (b ∷ []) = single b (b == 13) refl
 ends_in_return (b ∷ c ∷ bs) = elim (ends_in_return (c ∷ bs)) as (λ _. EndsInReturn (b ∷ c ∷ bs)) [
-    inl found ↦ inl (b ∷ found.0, ap (λ l. b ∷ l) found.1)
+  | inl found ↦ inl (b ∷ found.0, ap (λ l. b ∷ l) found.1)
   | inr other ↦ inr (behind_one b (c ∷ bs) (omega arith) other)
-  ]
+]
 
 front_one_line : (a b : List ℕ) → IsOneLine (a ++ b) → IsOneLine a
 front_one_line [] b h = tt

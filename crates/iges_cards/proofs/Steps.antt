@@ -1,12 +1,12 @@
 -- How reading goes on from line to line.
-use Rattle.std.proofs.Common.{◌≡◌, ℕ, ◌+◌, ◌-◌, ◌≤◌, ◌==◌, List, [], ◌∷◌, Bool, true, false, cond, length, take, Option, Some, None, Result, Ok, Err, refl, sym, ap, ◌∙◌, arith, length-append, ◌++◌}
+use Rattle.std.proofs.Common.{◌≡◌, ℕ, ◌+◌, ◌-◌, ◌≤◌, ◌==◌, List, [], ◌∷◌, true, false, length, take, Option, Some, None, Result, Ok, Err, refl, sym, ap, ◌∙◌, arith, length-append}
 use Rattle.iges_cards.specs.declared.faults.CardFault.{CardFault}
 use Rattle.iges_cards.specs.declared.faults.CardFault.TheVariants as fault
 use Rattle.iges_cards.specs.declared.reader.Cards.{Cards}
 use Rattle.iges_cards.specs.declared.sections.Counts.{Counts}
 use Rattle.iges_cards.specs.declared.sections.Section.{Section}
 use Rattle.iges_cards.specs.declared.sections.Section.TheVariants as section
-use Rattle.iges_cards.specs.Checks.{◌>>=◌, card_in, terminated}
+use Rattle.iges_cards.specs.Checks.{card_in, terminated}
 use Rattle.iges_cards.specs.Lines.{IsFirstLine, line_texts, line_of}
 use Rattle.iges_cards.specs.Reading.{keep, no_cards, read_from, cards_in}
 use Rattle.iges_cards.proofs.CheckLaws.{test_same}

@@ -1,21 +1,18 @@
 -- What is read is a file of the grammar.
-use Rattle.std.proofs.Common.{◌≡◌, ℕ, zero, suc, ◌+◌, ◌<◌, ◌≤◌, ◌⊎◌, inl, inr, List, [], ◌∷◌, ◌++◌, Bool, true, false, cond, length, take, drop, slice_index, Option, Some, None, Result, Ok, Err, refl, sym, ap, subst, ◌∙◌, arith, append_assoc, append-nil, length-append}
+use Rattle.std.proofs.Common.{◌≡◌, ℕ, ◌+◌, ◌<◌, ◌⊎◌, inl, inr, List, [], ◌∷◌, ◌++◌, Bool, true, false, cond, length, take, drop, Option, Some, None, Ok, refl, sym, ap, subst, ◌∙◌, arith, append_assoc, append-nil, length-append}
 use Rattle.std.specs.List.{concat}
-use Rattle.std.proofs.lemmas.List.{take_all}
-use Rattle.iges_cards.specs.declared.faults.CardFault.{CardFault}
-use Rattle.iges_cards.specs.declared.faults.CardFault.TheVariants as fault
 use Rattle.iges_cards.specs.declared.reader.Cards.{Cards}
 use Rattle.iges_cards.specs.declared.sections.Counts.{Counts}
 use Rattle.iges_cards.specs.declared.sections.Section.{Section}
 use Rattle.iges_cards.specs.declared.sections.Section.TheVariants as section
 use Rattle.iges_cards.specs.Checks.{◌>>=◌, card_in, terminated}
-use Rattle.iges_cards.specs.Grammar.{IsNumbered, IsCard, AreCards, IsTerminate, HasGroups, AreSections, counts_of, IsFixedForm}
+use Rattle.iges_cards.specs.Grammar.{IsCard, HasGroups, AreSections, counts_of, IsFixedForm}
 use Rattle.iges_cards.specs.Lines.{IsOneLine, IsLine, line_texts, line_of}
 use Rattle.iges_cards.specs.Numbers.{IsNumber}
 use Rattle.iges_cards.specs.Reading.{keep, no_cards, read_from, cards_in}
-use Rattle.iges_cards.specs.Sections.{letter_of, may_follow, width_of, is_terminate, count_of, one_more, no_lines}
+use Rattle.iges_cards.specs.Sections.{may_follow, width_of, is_terminate, count_of, one_more, no_lines}
 use Rattle.iges_cards.proofs.CardLaws.{IsNext, card_takes, terminated_takes}
-use Rattle.iges_cards.proofs.LineLaws.{IsEnded, AreTexts, are_texts, texts_joined, line_takes, line_open}
+use Rattle.iges_cards.proofs.LineLaws.{AreTexts, are_texts, texts_joined, line_takes, line_open}
 use Rattle.iges_cards.proofs.SeriesLaws.{Spells-more, none_spelt}
 use Rattle.iges_cards.proofs.CheckLaws.{both_gave}
 
@@ -136,9 +133,14 @@ more_start before counts cards text t columns h l n =
     record {
       globals = h.globals;
       sections = record {
-        start_text = s.start_text ++ t; global_text = s.global_text; directory_text = s.directory_text; parameter_text = s.parameter_text;
+        start_text = s.start_text ++ t;
+        global_text = s.global_text;
+        directory_text = s.directory_text;
+        parameter_text = s.parameter_text;
         start_lines = Spells-more (IsCard section.Start 72) 1 s.start_text t cards.start kept s.start_lines card;
-        global_lines = s.global_lines; directory_lines = s.directory_lines; parameter_lines = s.parameter_lines;
+        global_lines = s.global_lines;
+        directory_lines = s.directory_lines;
+        parameter_lines = s.parameter_lines;
         spelt = put_start s.start_text s.global_text s.directory_text s.parameter_text text t s.spelt gt dt pt;
       };
       joined = h.joined;
@@ -159,10 +161,14 @@ more_global before counts cards text t columns h l n =
     record {
       globals = h.globals ++ kept ∷ [];
       sections = record {
-        start_text = s.start_text; global_text = s.global_text ++ t; directory_text = s.directory_text; parameter_text = s.parameter_text;
+        start_text = s.start_text;
+        global_text = s.global_text ++ t;
+        directory_text = s.directory_text;
+        parameter_text = s.parameter_text;
         start_lines = s.start_lines;
         global_lines = Spells-more (IsCard section.Global 72) 1 s.global_text t h.globals kept s.global_lines card;
-        directory_lines = s.directory_lines; parameter_lines = s.parameter_lines;
+        directory_lines = s.directory_lines;
+        parameter_lines = s.parameter_lines;
         spelt = put_global s.start_text s.global_text s.directory_text s.parameter_text text t s.spelt dt pt;
       };
       joined = ap (λ l. l ++ kept) h.joined ∙ sym (concat-more h.globals kept);
@@ -182,8 +188,12 @@ more_directory before counts cards text t columns h l n =
     record {
       globals = h.globals;
       sections = record {
-        start_text = s.start_text; global_text = s.global_text; directory_text = s.directory_text ++ t; parameter_text = s.parameter_text;
-        start_lines = s.start_lines; global_lines = s.global_lines;
+        start_text = s.start_text;
+        global_text = s.global_text;
+        directory_text = s.directory_text ++ t;
+        parameter_text = s.parameter_text;
+        start_lines = s.start_lines;
+        global_lines = s.global_lines;
         directory_lines = Spells-more (IsCard section.Directory 80) 1 s.directory_text t cards.directory kept s.directory_lines card;
         parameter_lines = s.parameter_lines;
         spelt = put_directory s.start_text s.global_text s.directory_text s.parameter_text text t s.spelt pt;
@@ -204,8 +214,13 @@ more_parameter before counts cards text t columns h l n =
     record {
       globals = h.globals;
       sections = record {
-        start_text = s.start_text; global_text = s.global_text; directory_text = s.directory_text; parameter_text = s.parameter_text ++ t;
-        start_lines = s.start_lines; global_lines = s.global_lines; directory_lines = s.directory_lines;
+        start_text = s.start_text;
+        global_text = s.global_text;
+        directory_text = s.directory_text;
+        parameter_text = s.parameter_text ++ t;
+        start_lines = s.start_lines;
+        global_lines = s.global_lines;
+        directory_lines = s.directory_lines;
         parameter_lines = Spells-more (IsCard section.Parameter 64) 1 s.parameter_text t cards.params kept s.parameter_lines card;
         spelt = put_parameter s.start_text s.global_text s.directory_text s.parameter_text text t s.spelt;
       };
@@ -266,7 +281,7 @@ case_takes : (before : Option Section) (counts : Counts) (cards found : Cards) (
     → IsNext before counts next columns (line_of t)
     → cond v (terminated counts columns >>= λ _. Ok (record cards { end = length text + length t })) (read_from (Some next) (one_more next counts) (keep next (take (width_of next) columns) cards) (length text + length t) texts) ≡ Ok found
     → ((u : List ℕ) (more : List (List ℕ)) → texts ≡ u ∷ more → IsLine t (line_of t) → AreTexts (u ∷ more) → HasRead (Some next) (one_more next counts) (keep next (take (width_of next) columns) cards) (text ++ t)
-        → read_from (Some next) (one_more next counts) (keep next (take (width_of next) columns) cards) (length (text ++ t)) texts ≡ Ok found → IsFixedForm ((text ++ t) ++ concat texts) found)
+    → read_from (Some next) (one_more next counts) (keep next (take (width_of next) columns) cards) (length (text ++ t)) texts ≡ Ok found → IsFixedForm ((text ++ t) ++ concat texts) found)
     → IsFixedForm (text ++ (t ++ concat texts)) found
 unfolding read_from
 case_takes before counts cards found text t columns texts section.Terminate true e a h n k more =
@@ -289,10 +304,10 @@ unfolding read_from
 reading_takes [] before counts cards found text a h k = cc
 reading_takes (t ∷ texts) before counts cards found text a h k =
     let (card, of_line, more) = both_gave (card_in before counts (line_of t)) (λ card. cond (is_terminate card.0) (terminated counts card.1 >>= λ _. Ok (record cards { end = length text + length t }))
-        (read_from (Some card.0) (one_more card.0 counts) (keep card.0 (take (width_of card.0) card.1) cards) (length text + length t) texts)) found k in
+    (read_from (Some card.0) (one_more card.0 counts) (keep card.0 (take (width_of card.0) card.1) cards) (length text + length t) texts)) found k in
     let n = card_takes before counts card.0 card.1 (line_of t) of_line in
     case_takes before counts cards found text t card.1 texts card.0 (is_terminate card.0) refl a h n more (λ u us e line rest has next.
-        reading_takes texts (Some card.0) (one_more card.0 counts) (keep card.0 (take (width_of card.0) card.1) cards) found (text ++ t) (subst AreTexts (sym e) rest) has next)
+    reading_takes texts (Some card.0) (one_more card.0 counts) (keep card.0 (take (width_of card.0) card.1) cards) found (text ++ t) (subst AreTexts (sym e) rest) has next)
 
 pub cards_take : (bytes : List ℕ) (cards : Cards) → cards_in bytes ≡ Ok cards → IsFixedForm bytes cards
 unfolding cards_in

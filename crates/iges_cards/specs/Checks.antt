@@ -1,5 +1,5 @@
 -- The order in which a line is checked.
-use Rattle.std.specs.Prelude.{◌≡◌, ℕ, ◌+◌, List, [], ◌∷◌, ◌++◌, Bool, true, false, cond, not, ◌==◌, ◌&&◌, ◌||◌, nat_lt, length, take, drop, slice_index, Option, None, Some, Result, Ok, Err}
+use Rattle.std.specs.Prelude.{◌≡◌, ℕ, ◌+◌, List, [], ◌∷◌, Bool, false, cond, ◌==◌, ◌||◌, nat_lt, length, take, drop, slice_index, Option, None, Some, Result, Ok, Err}
 use Rattle.std.specs.List.{list_all}
 use Rattle.iges_cards.specs.declared.faults.CardFault.{CardFault}
 use Rattle.iges_cards.specs.declared.faults.CardFault.TheVariants as fault
@@ -11,7 +11,6 @@ use Rattle.iges_cards.specs.Numbers.{number_in, is_same}
 use Rattle.iges_cards.specs.Sections.{letter_of, section_of, may_follow, count_of, lines_in}
 
 infixl 10 ◌>>=◌
-
 -- a check, and then the next on what it gave
 abbrev pub ◌>>=◌ : {A B : Type 0} → Result A CardFault → (A → Result B CardFault) → Result B CardFault
 (Ok x) >>= f = f x

@@ -27,11 +27,7 @@ fn columns_in(number: u32, line: &[u8]) -> Result<&[u8], CardFault>
 
 /// The section that a letter names, behind a line of another section or in front.
 #[tactic(auto, unfolding(crate::specs::Checks::section_behind))]
-fn section_behind(
-    number: u32,
-    before: Option<Section>,
-    letter: u8,
-) -> Result<Section, CardFault>
+fn section_behind(number: u32, before: Option<Section>, letter: u8) -> Result<Section, CardFault>
     ensures { Gives (λ section. section) result (section_behind number before letter) }
 {
     if before.is_none() && (letter == b'C' || letter == b'B') {

@@ -7,7 +7,7 @@ use std::alloc::{AllocError, Global};
 use thiserror::Error;
 
 /// Why bytes are no cards. Lines are counted from 1.
-#[derive(Debug, Drop, Error)]
+#[derive(Clone, Copy, Debug, PartialEq, Eq, Error)]
 pub enum CardFault {
     /// Memory was wanting.
     #[error("memory is wanting")]

@@ -12,5 +12,4 @@ pub fn one_reading()
     ensures once { (bytes : List ℕ) (a b : Cards) → IsFixedForm bytes a → IsFixedForm bytes b → a ≡ b }
     ensures refused { (bytes : List ℕ) (fault : CardFault) → cards_in bytes ≡ Err fault → IsOfText fault × ((cards : Cards) → IsFixedForm bytes cards → ⊥) }
     ensures faulty { (bytes : List ℕ) → ((cards : Cards) → IsFixedForm bytes cards → ⊥) → (fault : CardFault) × (cards_in bytes ≡ Err fault) }
-{
-}
+{}

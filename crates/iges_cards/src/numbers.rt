@@ -10,7 +10,9 @@ fn blank_count(text: &[u8]) -> usize
     ensures within { result ≤ length text.now }
     ensures value { result ≡ prefix_len is_blank text.now }
 {
-    text.iter().take_while(|b| **b == b' ' || **b == b'\t').count()
+    text.iter()
+        .take_while(|b| **b == b' ' || **b == b'\t')
+        .count()
 }
 
 fn after_blanks(text: &[u8]) -> &[u8]
@@ -25,7 +27,9 @@ fn digit_count(text: &[u8]) -> usize
     ensures digits { All (λ b. IsTrue (is_digit b)) (take result text.now) }
     ensures value { result ≡ prefix_len is_digit text.now }
 {
-    text.iter().take_while(|b| **b >= b'0' && **b <= b'9').count()
+    text.iter()
+        .take_while(|b| **b >= b'0' && **b <= b'9')
+        .count()
 }
 
 /// The number that at most seven digits spell.

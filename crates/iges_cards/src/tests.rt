@@ -29,8 +29,11 @@ fn words_of(alloc: Global, text: &[u8]) -> Result<Bytes, Fail> {
 }
 
 const S: Line = ("a start line", "S      1", "\n");
+
 const G: Line = (",,;", "G      1", "\n");
+
 const D: Line = ("     158", "D      1", "\n");
+
 const P: Line = ("158,1.,,,;", "P      1", "\n");
 
 #[test]
@@ -59,14 +62,62 @@ fn first_faults(rt: HostRuntime) -> Result<(), Fail> {
         (&[S, ("", "G       ", "\n")], "BadSequence 2"),
         (&[S, ("", "G     +1", "\n")], "BadSequence 2"),
         (&[S, ("", "S    0 2", "\n")], "BadSequence 2"),
-        (&[S, G, ("S      1G      1D      0", "T      1", "\n")], "BadTerminate"),
-        (&[S, G, ("S      2G      1D      0Q      0", "T      1", "\n")], "BadTerminate"),
-        (&[S, G, ("S      1G      1D      0P     -0", "T      1", "\n")], "BadTerminate"),
-        (&[S, G, ("S      1G      1D      0P      0", "T      1\r", "")], "LongLine 3"),
-        (&[S, G, D, P, ("S      2G      2D      2P      2", "T      1", "\n")], "CountMismatch S 2 1"),
-        (&[S, G, D, P, ("S      1G      2D      2P      2", "T      1", "\n")], "CountMismatch G 2 1"),
-        (&[S, G, D, P, ("S      1G      1D      0P      2", "T      1", "\n")], "CountMismatch D 0 1"),
-        (&[S, G, D, P, ("S      1G      1D      1P9999999", "T      1", "")], "CountMismatch P 9999999 1"),
+        (
+            &[S, G, ("S      1G      1D      0", "T      1", "\n")],
+            "BadTerminate",
+        ),
+        (
+            &[S, G, ("S      2G      1D      0Q      0", "T      1", "\n")],
+            "BadTerminate",
+        ),
+        (
+            &[S, G, ("S      1G      1D      0P     -0", "T      1", "\n")],
+            "BadTerminate",
+        ),
+        (
+            &[S, G, ("S      1G      1D      0P      0", "T      1\r", "")],
+            "LongLine 3",
+        ),
+        (
+            &[
+                S,
+                G,
+                D,
+                P,
+                ("S      2G      2D      2P      2", "T      1", "\n"),
+            ],
+            "CountMismatch S 2 1",
+        ),
+        (
+            &[
+                S,
+                G,
+                D,
+                P,
+                ("S      1G      2D      2P      2", "T      1", "\n"),
+            ],
+            "CountMismatch G 2 1",
+        ),
+        (
+            &[
+                S,
+                G,
+                D,
+                P,
+                ("S      1G      1D      0P      2", "T      1", "\n"),
+            ],
+            "CountMismatch D 0 1",
+        ),
+        (
+            &[
+                S,
+                G,
+                D,
+                P,
+                ("S      1G      1D      1P9999999", "T      1", ""),
+            ],
+            "CountMismatch P 9999999 1",
+        ),
     ];
     for (lines, want) in cases {
         let text = text_of(alloc, lines)?;
@@ -83,9 +134,33 @@ const BEHIND: &str = "@1 point 1 0 0 0\n";
 fn read_files(rt: HostRuntime) -> Result<(), Fail> {
     let alloc = rt.alloc();
     let cases: [(&[Line], usize, usize); 4] = [
-        (&[S, G, ("S      1G      1D      0P      0", "T      1", "\n")], 0, 243),
-        (&[S, G, D, P, ("S1      G0000001D\t1     P 1     ", "T1      ", "\n")], 1, 405),
-        (&[S, G, D, P, ("S      1G      1D      1P      1", "T      1 \t", "\n")], 1, 407),
+        (
+            &[S, G, ("S      1G      1D      0P      0", "T      1", "\n")],
+            0,
+            243,
+        ),
+        (
+            &[
+                S,
+                G,
+                D,
+                P,
+                ("S1      G0000001D\t1     P 1     ", "T1      ", "\n"),
+            ],
+            1,
+            405,
+        ),
+        (
+            &[
+                S,
+                G,
+                D,
+                P,
+                ("S      1G      1D      1P      1", "T      1 \t", "\n"),
+            ],
+            1,
+            407,
+        ),
         (
             &[
                 ("", "S      1", "\r\n"),
@@ -119,7 +194,11 @@ fn kept_columns(rt: HostRuntime) -> Result<(), Fail> {
     let cards = read_cards(alloc, &text)?;
     assert_eq!(rt; cards.end, text.len());
     assert_eq!(rt; cards.global.as_slice().starts_with(b",,; "), true);
-    for (lines, width) in [(&cards.start, 72), (&cards.directory, 80), (&cards.params, 64)] {
+    for (lines, width) in [
+        (&cards.start, 72),
+        (&cards.directory, 80),
+        (&cards.params, 64),
+    ] {
         for line in lines.as_slice() {
             assert_eq!(rt; line.len(), width);
         }

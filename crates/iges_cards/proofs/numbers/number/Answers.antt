@@ -1,4 +1,4 @@
-use Rattle.std.proofs.Common.{arith, ◌<◌}
+use Rattle.std.proofs.Common.{arith}
 use Rattle.iges_cards.proofs.Digits.{six_digits}
 use Rattle.iges_cards.proofs.numbers.number.Goals as goal
 
