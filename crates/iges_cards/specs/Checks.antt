@@ -1,4 +1,5 @@
--- The order in which a line is checked.
+-- The order in which a line is checked: its length, what stands past column 80, whether the first line is of another
+-- form, its section letter, its number; of the terminate line then its groups and counts. This order is solidd's own.
 use Rattle.std.specs.Prelude.{◌≡◌, ℕ, ◌+◌, List, [], ◌∷◌, Bool, false, cond, ◌==◌, ◌||◌, nat_lt, length, take, drop, slice_index, Option, None, Some, Result, Ok, Err}
 use Rattle.std.specs.List.{list_all}
 use Rattle.iges_cards.specs.declared.faults.CardFault.{CardFault}
@@ -27,11 +28,12 @@ columns_in number line =
     cond (nat_lt (length line) 80) (Err (fault.ShortLine number))
     (cond (list_all is_blank (drop 80 line)) (Ok (take 80 line)) (Err (fault.LongLine number)))
 
--- the letters C and B begin files of the compressed and binary forms
+-- a first line with C or B in column 73 isn't of the fixed form; solidd's own
 abbrev pub is_other_form : Option Section → ℕ → Bool
 is_other_form None letter = (letter == 67) || (letter == 66)
 is_other_form (Some before) letter = false
 
+-- a section, where it may follow; none is named by another letter
 abbrev pub allowed : ℕ → Option Section → Option Section → Result Section CardFault
 allowed number before None = Err (fault.BadSection number)
 allowed number before (Some next) = cond (may_follow before next) (Ok next) (Err (fault.BadSection number))
@@ -57,6 +59,7 @@ abbrev pub told : Option ℕ → Option ℕ → Option ℕ → Option ℕ → Re
 told (Some start) (Some global) (Some directory) (Some parameter) = Ok (record { start = start; global = global; directory = directory; parameter = parameter })
 told _ _ _ _ = Err fault.BadTerminate
 
+-- the counts in columns 1 to 32 of the terminate line
 unfoldable pub told_in : List ℕ → Result Counts CardFault
 told_in columns = told (group_in 83 (take 8 columns)) (group_in 71 (take 8 (drop 8 columns))) (group_in 68 (take 8 (drop 16 columns))) (group_in 80 (take 8 (drop 24 columns)))
 
@@ -65,6 +68,7 @@ unfoldable pub same_count : Section → Counts → Counts → Result Counts Card
 same_count letter found told =
     cond (count_of told letter == count_of found letter) (Ok found) (Err (fault.CountMismatch (letter_of letter) (count_of told letter) (count_of found letter)))
 
+-- the groups are read first, and then the counts compared in the order S, G, D, P
 unfoldable pub terminated : Counts → List ℕ → Result Counts CardFault
 terminated found columns =
     told_in columns >>= λ told. same_count section.Start found told >>= λ _. same_count section.Global found told >>= λ _.

@@ -7,6 +7,7 @@ use Rattle.std.specs.List.{AllByRecursion}
 abbrev pub is_blank : ℕ → Bool
 is_blank b = (b == 32) || (b == 9)
 
+-- blanks alone
 abbrev pub AreBlanks : List ℕ → Type 0
 AreBlanks text = AllByRecursion (λ b. IsTrue (is_blank b)) text
 
@@ -38,6 +39,7 @@ unfoldable pub line_texts : List ℕ → List (List ℕ)
 line_texts [] = []
 line_texts (b ∷ bs) = cond (b == 10) ((10 ∷ []) ∷ line_texts bs) (put_in_front b (line_texts bs))
 
+-- whether a text is LF alone
 abbrev pub is_feed : List ℕ → Bool
 is_feed [] = false
 is_feed (b ∷ []) = b == 10

@@ -19,6 +19,7 @@ pub record IsNumber (n : ℕ) (columns : List ℕ) : Type 0 where
 
 -- ---- how a number is read from its columns
 
+-- the columns behind the blanks in front
 abbrev pub behind_blanks : List ℕ → List ℕ
 behind_blanks columns = drop (prefix_len is_blank columns) columns
 
@@ -30,6 +31,7 @@ number_before count text = cond (not (count == 0) && list_all is_blank (drop cou
 unfoldable pub number_in : List ℕ → Option ℕ
 number_in columns = number_before (prefix_len is_digit (behind_blanks columns)) (behind_blanks columns)
 
+-- whether a number was read, and is this one
 abbrev pub is_same : Option ℕ → ℕ → Bool
 is_same None n = false
 is_same (Some m) n = m == n

@@ -18,6 +18,7 @@ keep section.Directory kept cards = record cards { directory = cards.directory +
 keep section.Parameter kept cards = record cards { params = cards.params ++ kept ∷ [] }
 keep section.Terminate kept cards = cards
 
+-- nothing was read
 abbrev pub no_cards : Cards
 no_cards = record { start = []; global = []; directory = []; params = []; end = 0 }
 

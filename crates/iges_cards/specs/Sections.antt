@@ -12,6 +12,7 @@ letter_of section.Directory = 68
 letter_of section.Parameter = 80
 letter_of section.Terminate = 84
 
+-- the section that a letter names
 abbrev pub section_of : ℕ → Option Section
 section_of letter =
     cond (letter == 83) (Some section.Start) (cond (letter == 71) (Some section.Global) (cond (letter == 68) (Some section.Directory)
@@ -46,6 +47,7 @@ may_follow (Some section.Parameter) section.Parameter = true
 may_follow (Some section.Parameter) section.Terminate = true
 may_follow (Some section.Terminate) next = false
 
+-- whether it is the section of the terminate line
 abbrev pub is_terminate : Section → Bool
 is_terminate section.Terminate = true
 is_terminate section.Start = false
@@ -78,6 +80,7 @@ one_more section.Directory counts = record counts { directory = counts.directory
 one_more section.Parameter counts = record counts { parameter = counts.parameter + 1 }
 one_more section.Terminate counts = counts
 
+-- no lines of any section
 abbrev pub no_lines : Counts
 no_lines = record { start = 0; global = 0; directory = 0; parameter = 0 }
 

@@ -3,6 +3,7 @@ use Rattle.std.specs.Prelude.{◌≢◌, ℕ, List, ◌∷◌, ◌++◌, codes, 
 use Rattle.iges_cards.specs.declared.faults.CardFault.{CardFault}
 use Rattle.iges_cards.specs.declared.faults.CardFault.TheVariants as fault
 
+-- the number of a fault
 abbrev pub fault_number : CardFault → ℕ
 fault_number (fault.Memory e) = 1
 fault_number fault.NotFixed = 2

@@ -39,6 +39,7 @@ fn section_behind(number: u32, before: Option<Section>, letter: u8) -> Result<Se
     }
 }
 
+/// Whether columns hold this number.
 fn is_number(columns: &[u8], number: u32) -> bool
     requires { length columns.now ≤ 7 }
     ensures { result ≡ is_same (number_in columns.now) number }
@@ -103,6 +104,7 @@ fn told_in(columns: &[u8]) -> Result<Counts, CardFault>
     }
 }
 
+/// Whether the number that is told of a section is that of its lines.
 #[tactic(auto, unfolding(crate::specs::Checks::same_count))]
 fn same_count(section: Section, found: Counts, told: Counts) -> Result<(), CardFault>
     ensures { Gives (λ _. found) result (same_count section found told) }
