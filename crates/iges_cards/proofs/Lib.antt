@@ -1,0 +1,10 @@
+pub mod AgainLaws
+pub mod CardLaws
+pub mod CheckLaws
+pub mod Digits
+pub mod FaultLaws
+pub mod LineLaws
+pub mod NumberLaws
+pub mod SeriesLaws
+pub mod Steps
+pub mod TakesLaws

@@ -1,0 +1,104 @@
+-- Numbers in columns: what is spelt is read, and what is read is spelt.
+use Rattle.std.proofs.Common.{◌≡◌, ℕ, ◌+◌, ◌<◌, ◌≤◌, List, [], ◌∷◌, ◌++◌, Bool, true, false, cond, not, ◌&&◌, ◌==◌, length, take, drop, Some, refl, sym, ap, ◌∙◌, arith, length-append, one-add, IsTrue, suc}
+use Rattle.std.specs.List.{AllByRecursion, prefix_len, list_all}
+use Rattle.std.proofs.lemmas.List.{take-append-drop}
+use Rattle.std.proofs.lemmas.List.Folds.{length-prefix_len}
+use Rattle.std.proofs.Math.Seq.{take-append_seam, drop-append_seam}
+use Rattle.solid_base.specs.Digits.{is_digit, AreDigits, number_of}
+use Rattle.iges_cards.specs.Lines.{is_blank, AreBlanks}
+use Rattle.iges_cards.specs.Numbers.{IsNumber, behind_blanks, number_before, number_in}
+use Rattle.iges_cards.proofs.Digits.{number_of-below}
+use Rattle.iges_cards.proofs.CheckLaws.{both, turned, passed, test_not}
+
+pub all_test : (p : ℕ → Bool) (xs : List ℕ) → AllByRecursion (λ b. IsTrue (p b)) xs → list_all p xs ≡ true
+all_test p [] h = refl
+all_test p (x ∷ xs) h = rw (h.0, all_test p xs h.1) refl
+
+pub test_all : (p : ℕ → Bool) (xs : List ℕ) → list_all p xs ≡ true → AllByRecursion (λ b. IsTrue (p b)) xs
+test_all p [] h = tt
+test_all p (x ∷ xs) h = let (a, b) = both (p x) (list_all p xs) h in (a, test_all p xs b)
+
+-- ---- bytes in front that pass a test
+
+front_case : (p : ℕ → Bool) (x : ℕ) (xs : List ℕ) (v : Bool) → p x ≡ v → AllByRecursion (λ b. IsTrue (p b)) (take (prefix_len p xs) xs)
+    → AllByRecursion (λ b. IsTrue (p b)) (take (cond v (1 + prefix_len p xs) 0) (x ∷ xs))
+front_case p x xs true e h = rw one-add (e, h)
+front_case p x xs false e h = tt
+
+front_passes : (p : ℕ → Bool) (xs : List ℕ) → AllByRecursion (λ b. IsTrue (p b)) (take (prefix_len p xs) xs)
+front_passes p [] = tt
+front_passes p (x ∷ xs) = front_case p x xs (p x) refl (front_passes p xs)
+
+abbrev Stops : (ℕ → Bool) → List ℕ → Type 0
+Stops p [] = Unit {0}
+Stops p (x ∷ xs) = p x ≡ false
+
+stops_none : (p : ℕ → Bool) (xs : List ℕ) → Stops p xs → prefix_len p xs ≡ 0
+stops_none p [] h = refl
+stops_none p (x ∷ xs) h = rw h refl
+
+front_length : (p : ℕ → Bool) (front rest : List ℕ) → AllByRecursion (λ b. IsTrue (p b)) front → Stops p rest → prefix_len p (front ++ rest) ≡ length front
+front_length p [] rest h s = stops_none p rest s
+front_length p (x ∷ xs) rest h s = rw h.0 (one-add (prefix_len p (xs ++ rest)) ∙ ap suc (front_length p xs rest h.1 s))
+
+digit_not_blank : (b : ℕ) → IsTrue (is_digit b) → is_blank b ≡ false
+digit_not_blank b h = grind arith
+
+blank_not_digit : (b : ℕ) → IsTrue (is_blank b) → is_digit b ≡ false
+blank_not_digit b h = grind arith
+
+digits_stop : (digits behind : List ℕ) → 0 < length digits → AreDigits digits → Stops is_blank (digits ++ behind)
+digits_stop [] behind some h = absurd (omega arith)
+digits_stop (d ∷ ds) behind some h = digit_not_blank d h.0
+
+blanks_stop : (behind : List ℕ) → AreBlanks behind → Stops is_digit behind
+blanks_stop [] h = tt
+blanks_stop (b ∷ bs) h = blank_not_digit b h.0
+
+not_none : (n : ℕ) → 0 < n → not (n == 0) ≡ true
+not_none n h = grind arith
+
+-- ---- the laws
+
+number_again_before : (digits behind : List ℕ) → 0 < length digits → AreDigits digits → AreBlanks behind → number_before (prefix_len is_digit (digits ++ behind)) (digits ++ behind) ≡ Some (number_of digits)
+number_again_before digits behind some h b =
+    rw (front_length is_digit digits behind h (blanks_stop behind b), drop-append_seam digits behind, take-append_seam digits behind, all_test is_blank behind b, not_none (length digits) some) refl
+
+pub number_again : (n : ℕ) (columns : List ℕ) → IsNumber n columns → number_in columns ≡ Some n
+unfolding number_in
+number_again n columns h =
+    let rest = h.digits ++ h.behind in
+    let count : prefix_len is_blank columns ≡ length h.before = ap (prefix_len is_blank) h.spelt ∙ front_length is_blank h.before rest h.before_blank (digits_stop h.digits h.behind h.some_digit h.all_digits) in
+    let text : behind_blanks columns ≡ rest = ap (λ k. drop k columns) count ∙ ap (drop (length h.before)) h.spelt ∙ drop-append_seam h.before rest in
+    ap (λ t. number_before (prefix_len is_digit t) t) text ∙ number_again_before h.digits h.behind h.some_digit h.all_digits h.behind_blank ∙ ap Some h.value
+
+some_of : (n : ℕ) → not (n == 0) ≡ true → 0 < n
+some_of n h = let other = test_not n 0 (turned (n == 0) h) in omega arith
+
+pub number_takes : (n : ℕ) (columns : List ℕ) → number_in columns ≡ Some n → IsNumber n columns
+unfolding number_in
+number_takes n columns h =
+    let text = behind_blanks columns in
+    let count = prefix_len is_digit text in
+    let (tests, value) = passed (not (count == 0) && list_all is_blank (drop count text)) (Some (number_of (take count text))) n h in
+    let (some, blank) = both (not (count == 0)) (list_all is_blank (drop count text)) tests in
+    let positive : 0 < count = some_of count some in
+    record {
+      before = take (prefix_len is_blank columns) columns;
+      digits = take count text;
+      behind = drop count text;
+      spelt = sym (take-append-drop (prefix_len is_blank columns) columns) ∙ ap (λ t. take (prefix_len is_blank columns) columns ++ t) (sym (take-append-drop count text));
+      before_blank = front_passes is_blank columns;
+      some_digit = omega (arith, length-prefix_len is_digit text);
+      all_digits = front_passes is_digit text;
+      behind_blank = test_all is_blank (drop count text) blank;
+      value = (let e : number_of (take count text) ≡ n = cc in e);
+    }
+
+-- a number in seven columns
+pub number_below : (n : ℕ) (columns : List ℕ) → IsNumber n columns → length columns ≤ 7 → n ≤ 9999999
+number_below n columns h short =
+    let parts : length columns ≡ length h.before + (length h.digits + length h.behind) =
+    ap length h.spelt ∙ length-append h.before (h.digits ++ h.behind) ∙ ap (λ k. length h.before + k) (length-append h.digits h.behind) in
+    let below = number_of-below 7 h.digits h.all_digits (omega arith) in
+    omega (arith, below, h.value)

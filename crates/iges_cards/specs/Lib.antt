@@ -1,0 +1,8 @@
+pub mod Checks
+pub mod Grammar
+pub mod Lines
+pub mod Numbers
+pub mod Reading
+pub mod Sections
+pub mod Series
+pub mod Words

@@ -1,0 +1,15 @@
+ghost use Rattle.std.specs.Prelude.{◌≡◌, ◌↔◌, ℕ, List, Ok, Err};
+ghost use Rattle.iges_cards.specs.declared.faults.CardFault.{CardFault};
+ghost use Rattle.iges_cards.specs.declared.reader.Cards.{Cards};
+ghost use Rattle.iges_cards.specs.Grammar.{IsFixedForm};
+ghost use Rattle.iges_cards.specs.Reading.{cards_in};
+ghost use Rattle.iges_cards.specs.Words.{IsOfText};
+
+/// A law on all bytes: they are a file in the fixed form, with one reading, or they have a first fault,
+/// and never both. The reading that finds the fault gives exactly the files of the grammar.
+pub fn one_reading()
+    ensures read { (bytes : List ℕ) (cards : Cards) → IsFixedForm bytes cards ↔ (cards_in bytes ≡ Ok cards) }
+    ensures once { (bytes : List ℕ) (a b : Cards) → IsFixedForm bytes a → IsFixedForm bytes b → a ≡ b }
+    ensures refused { (bytes : List ℕ) (fault : CardFault) → cards_in bytes ≡ Err fault → IsOfText fault × ((cards : Cards) → IsFixedForm bytes cards → ⊥) }
+    ensures faulty { (bytes : List ℕ) → ((cards : Cards) → IsFixedForm bytes cards → ⊥) → (fault : CardFault) × (cards_in bytes ≡ Err fault) }
+{}

@@ -1,0 +1,95 @@
+ghost use Rattle.std.specs.Prelude.{◌≡◌, ◌++◌, ◌∷◌, [], length, IfOk, IfErr, OnOk, Ok, Err};
+ghost use Rattle.iges_cards.specs.Grammar.{IsFixedForm};
+ghost use Rattle.iges_cards.specs.Reading.{keep, no_cards, cards_in};
+ghost use Rattle.iges_cards.specs.Words.{IsOfText};
+
+use crate::checks::{card_in, check_counts};
+use crate::faults::CardFault;
+use crate::lines::split_line;
+use crate::sections::{Counts, Section};
+use solid_base::{Bytes, Lines};
+use std::alloc::{AllocError, Global};
+
+/// What the lines of a file hold, up to the terminate line.
+#[derive(Debug, Drop)]
+pub struct Cards {
+    /// Columns 1 to 72 of each start line.
+    pub start: Lines,
+    /// Columns 1 to 72 of the global lines, joined.
+    pub global: Bytes,
+    /// The 80 columns of each directory line.
+    pub directory: Lines,
+    /// Columns 1 to 64 of each parameter line.
+    pub params: Lines,
+    /// The place behind the terminate line and its line end.
+    pub end: usize,
+}
+
+fn push_columns(alloc: Global, lines: &mut Lines, columns: &[u8]) -> Result<(), AllocError>
+    ensures { OnOk result (lines.new ≡ lines.old ++ columns.now ∷ []) }
+{
+    lines.push(Bytes::from_vec(Vec::from_slice(alloc, columns)?))
+}
+
+impl Cards {
+    fn new(alloc: Global) -> Cards
+        ensures { result ≡ no_cards }
+    {
+        Cards {
+            start: Lines::new(alloc),
+            global: Bytes::new(alloc),
+            directory: Lines::new(alloc),
+            params: Lines::new(alloc),
+            end: 0,
+        }
+    }
+
+    /// Keeps columns of a line more.
+    fn keep(&mut self, alloc: Global, section: Section, kept: &[u8]) -> Result<(), AllocError>
+        ensures { OnOk result (self.new ≡ keep section kept.now self.old) }
+    {
+        match section {
+            Section::Start => push_columns(alloc, &mut self.start, kept),
+            Section::Global => self.global.extend_from_slice(kept),
+            Section::Directory => push_columns(alloc, &mut self.directory, kept),
+            Section::Parameter => push_columns(alloc, &mut self.params, kept),
+            Section::Terminate => Ok(()),
+        }
+    }
+}
+
+/// Reads lines up to the terminate line. What stands behind it isn't read.
+///
+/// A line has 80 columns and ends with LF or CR LF; blanks alone may stand behind column 80, and the
+/// terminate line may also end where the bytes end. Column 73 is the section letter: S lines come first,
+/// then G, D, P and one T line; D and P lines may be absent. Columns 74 to 80 are the number of the line
+/// in its section. Columns 1 to 32 of the T line tell how many lines S, G, D and P have.
+///
+/// Bytes that aren't so are refused by the first fault, line by line; of one line ShortLine, LongLine,
+/// NotFixed, BadSection and BadSequence are looked for in this order, and in the T line then
+/// BadTerminate and CountMismatch. NoTerminate comes where no line has a fault and there is no T line.
+/// Memory comes where memory is wanting.
+pub fn read_cards(alloc: Global, bytes: &[u8]) -> Result<Cards, CardFault>
+    ensures found { IfOk result (λ cards. cards_in bytes.now ≡ Ok cards) }
+    ensures first_fault { IfErr result (λ fault. IsOfText fault → cards_in bytes.now ≡ Err fault) }
+    ensures fixed_form { IfOk result (λ cards. IsFixedForm bytes.now cards) }
+{
+    let mut cards = Cards::new(alloc);
+    let mut counts = Counts::new();
+    let mut before = None;
+    let mut rest = bytes;
+    while !rest.is_empty() {
+        let (line, behind) = split_line(rest);
+        rest = behind;
+        let (section, columns) = card_in(before, counts, line)?;
+        if section.is_terminate() {
+            check_counts(counts, columns)?;
+            cards.end = bytes.len() - rest.len();
+            return Ok(cards);
+        }
+        cards.keep(alloc, section, &columns[..section.width()])?;
+        counts = counts.one_more(section);
+        before = Some(section);
+    }
+    Err(CardFault::NoTerminate)
+}
