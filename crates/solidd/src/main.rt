@@ -5,9 +5,8 @@
 use solid_io::{OpenGate, StdSink, StdSource};
 use solid_top::{Status, run};
 use std::alloc::{AllocError, Global};
-use std::env;
-use std::io;
 use std::process::ExitCode;
+use std::{env, io};
 
 /// The words of the command line, without the program's name. An argument that is no text makes the
 /// words none, which are no command.
