@@ -1,10 +1,10 @@
 -- Which items a tree can begin with.
-use Rattle.std.proofs.Common.{◌≡◌, ◌⊎◌, inl, inr, ℕ, ◌+◌, ◌-◌, ◌<◌, List, [], ◌∷◌, ◌++◌, length, take, Result, Ok, Err, refl, sym, ap, ◌∙◌, append_assoc, length-append, arith, flat_map}
+use Rattle.std.proofs.Common.{◌≡◌, ℕ, ◌-◌, List, [], ◌∷◌, ◌++◌, length, take, Ok, Err, refl, sym, ap, ◌∙◌, append_assoc, length-append, arith, flat_map}
 use Rattle.std.proofs.Math.Seq.{take-append_seam}
 use Rattle.std.proofs.lemmas.List.{append-nil}
 use Rattle.solid_base.specs.declared.solids.Item.{Item}
 use Rattle.solid_base.specs.declared.solids.Item.TheVariants as item
-use Rattle.boolean_tree.specs.Trees.{Operation, union, Tree, operand, combination, item_of, post_order, IsPostOrder, IsFront}
+use Rattle.boolean_tree.specs.Trees.{union, Tree, operand, combination, item_of, post_order, IsPostOrder, IsFront}
 use Rattle.boolean_tree.specs.Faults.{LacksOperands, LeavesOthers}
 use Rattle.boolean_tree.proofs.Readings.{reading, reading-post_order, reading-short, reading-others}
 
@@ -45,13 +45,13 @@ with_it_is_none n items h (rest, tree) =
     let whole : items ≡ front ++ h.rest = h.spelt ∙ sym (append_assoc trees (item_of h.operation ∷ []) h.rest) in
     let cut : take (n - 1) items ≡ front = rw (long, whole) (take-append_seam front h.rest) in
     let other : LacksOperands n (take (n - 1) items ++ rest) = record {
-  trees = h.trees;
-  operation = h.operation;
-  rest = rest;
-  few = h.few;
-  spelt = ap (λ xs. xs ++ rest) cut ∙ append_assoc trees (item_of h.operation ∷ []) rest;
-  place = h.place;
-} in
+      trees = h.trees;
+      operation = h.operation;
+      rest = rest;
+      few = h.few;
+      spelt = ap (λ xs. xs ++ rest) cut ∙ append_assoc trees (item_of h.operation ∷ []) rest;
+      place = h.place;
+    } in
     not_both (take (n - 1) items ++ rest) n (reading-short n (take (n - 1) items ++ rest) other) tree
 
 pub others_are_front : (items : List Item) → LeavesOthers items → IsFront items

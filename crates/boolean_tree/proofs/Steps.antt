@@ -6,7 +6,7 @@ use Rattle.std.proofs.lemmas.List.{append-nil, reverse-append, length-reverse, t
 use Rattle.solid_base.specs.declared.solids.Item.{Item}
 use Rattle.solid_base.specs.declared.solids.Item.TheVariants as item
 use Rattle.boolean_tree.specs.Trees.{Operation, union, intersection, difference, Tree, operand, combination, item_of, post_order, IsPostOrder}
-use Rattle.boolean_tree.specs.Faults.{LacksOperands, LeavesOthers, IsFault}
+use Rattle.boolean_tree.specs.Faults.{LacksOperands, LeavesOthers}
 
 -- the first items, so many, are so many whole trees, of which the last one comes first here
 pub record AreTrees (items : List Item) (at count : ℕ) : Type 0 where
@@ -21,7 +21,7 @@ one_more t ts =
     ap (flat_map post_order) last ∙ flat_map-append post_order (reverse ts) (t ∷ []) ∙ ap (λ items. flat_map post_order (reverse ts) ++ items) (append-nil (post_order t))
 
 pub no_items : (items : List Item) → AreTrees items 0 0
-no_items items = record { trees = []; number = refl; spelt = refl; }
+no_items items = record { trees = []; number = refl; spelt = refl }
 
 -- the first items with the next one
 next : (items : List Item) (at : ℕ) (d : Item) (i : Item) → at < length items → get_or items at d ≡ i → take (at + 1) items ≡ take at items ++ i ∷ []
@@ -66,13 +66,13 @@ lacks items at count d o room is few h =
     rw add-one (sym (take-append-drop at items) ∙ ap (λ rest. take at items ++ rest) (drop-cons items at d room ∙ ap (λ i. i ∷ drop (suc at) items) is)) in
     let long : length (flat_map post_order (reverse h.trees)) ≡ at = rw (sym h.spelt) (length-take-le at items (omega (arith, room))) in
     record {
-  trees = reverse h.trees;
-  operation = o;
-  rest = drop (at + 1) items;
-  few = omega (arith, few, h.number, length-reverse h.trees);
-  spelt = cut ∙ ap (λ front. front ++ item_of o ∷ drop (at + 1) items) h.spelt;
-  place = omega (arith, long);
-}
+      trees = reverse h.trees;
+      operation = o;
+      rest = drop (at + 1) items;
+      few = omega (arith, few, h.number, length-reverse h.trees);
+      spelt = cut ∙ ap (λ front. front ++ item_of o ∷ drop (at + 1) items) h.spelt;
+      place = omega (arith, long);
+    }
 
 all_spelt : (items : List Item) (at count : ℕ) → length items ≤ at → (h : AreTrees items at count) → items ≡ flat_map post_order (reverse h.trees)
 all_spelt items at count done h = sym (take_all at items done) ∙ h.spelt

@@ -31,5 +31,57 @@ pub fn check_items(items: &Items) -> Option<u32>
             }
         }
     }
-    if trees == 1 { None } else { Some(NUMBER_OF_ITEMS) }
+    if trees == 1 {
+        None
+    } else {
+        Some(NUMBER_OF_ITEMS)
+    }
+}
+
+#[cfg(test)]
+mod tests {
+    use super::*;
+    use std::alloc::AllocError;
+
+    const A: Item = Item::Operand(1);
+
+    const B: Item = Item::Operand(3);
+
+    const C: Item = Item::Operand(5);
+
+    const JOIN: Item = Item::Join;
+
+    const MEET: Item = Item::Meet;
+
+    const LESS: Item = Item::Less;
+
+    #[test]
+    fn finds_where_a_list_stops_to_be_one_tree(rt: HostRuntime) -> Result<(), AllocError> {
+        let cases: [(&[Item], Option<u32>); 15] = [
+            (&[A], None),
+            (&[A, B, LESS], None),
+            (&[A, A, MEET], None),
+            (&[A, B, C, JOIN, LESS], None),
+            (&[A, B, JOIN, C, LESS], None),
+            (&[A, B, JOIN, C, A, MEET, LESS], None),
+            // Nothing, or several trees, at the end.
+            (&[], Some(1)),
+            (&[A, B], Some(1)),
+            (&[A, B, JOIN, C], Some(1)),
+            // An operation before which none or one tree stands.
+            (&[JOIN], Some(2)),
+            (&[LESS, A, B], Some(2)),
+            (&[A, MEET], Some(3)),
+            (&[A, B, JOIN, MEET], Some(5)),
+            (&[A, B, C, JOIN, LESS, JOIN], Some(7)),
+            // The first of several faults.
+            (&[A, B, JOIN, MEET, LESS, C, A], Some(5)),
+        ];
+        for (list, want) in cases {
+            let items = Items::from_vec(Vec::from_slice(rt.alloc(), list)?);
+            assert!(rt; items.len() < 100);
+            assert_eq!(rt; check_items(&items), want, "items {list:?}");
+        }
+        Ok(())
+    }
 }
