@@ -26,10 +26,12 @@ trees_begin t (u ∷ us) =
     let glue : (post_order t ++ others) ++ (more.0 ++ item.Join ∷ []) ≡ post_order t ++ (others ++ more.0) ++ item.Join ∷ [] = simp append_assoc in
     (more.0 ++ item.Join ∷ [], glue ∙ ap (λ items. post_order t ++ items ++ item.Join ∷ []) more.1)
 
+-- a tree begins with any whole trees, one behind the other
 trees_are_front : (ts : List Tree) → IsFront (flat_map post_order ts)
 trees_are_front [] = (item.Operand 0 ∷ [], (operand 0, refl))
 trees_are_front (t ∷ us) = let more = trees_begin t us in (more.0, (union_of t us, more.1))
 
+-- a tree begins with the items before an operation that lacks operands
 pub before_is_front : (n : ℕ) (items : List Item) → LacksOperands n items → IsFront (take (n - 2) items)
 before_is_front n items h =
     let trees = flat_map post_order h.trees in
@@ -37,6 +39,7 @@ before_is_front n items h =
     let cut : take (n - 2) items ≡ trees = rw (long, h.spelt) (take-append_seam trees (item_of h.operation ∷ h.rest)) in
     rw cut (trees_are_front h.trees)
 
+-- no tree begins with those and the operation
 pub with_it_is_none : (n : ℕ) (items : List Item) → LacksOperands n items → ¬ IsFront (take (n - 1) items)
 with_it_is_none n items h (rest, tree) =
     let trees = flat_map post_order h.trees in

@@ -26,6 +26,7 @@ reading (item.Join ∷ items) ts index = combined union (reading items) ts index
 reading (item.Meet ∷ items) ts index = combined intersection (reading items) ts index
 reading (item.Less ∷ items) ts index = combined difference (reading items) ts index
 
+-- an operation, whichever it is
 reading-item_of : (o : Operation) (items : List Item) (ts : List Tree) (index : ℕ) → reading (item_of o ∷ items) ts index ≡ combined o (reading items) ts index
 unfolding reading
 reading-item_of union items ts index = refl
@@ -65,15 +66,18 @@ reading-trees (u ∷ us) rest ts index =
     let count : index + length (post_order u) + length (flat_map post_order us) ≡ index + length (post_order u ++ flat_map post_order us) = omega (arith, length-append (post_order u) (flat_map post_order us)) in
     ap (λ items. reading items ts index) cut ∙ one ∙ more ∙ ap (λ n. reading rest (pushed us (u ∷ ts)) n) count
 
+-- a tree's own list is read as that tree
 pub reading-post_order : (t : Tree) → reading (post_order t) [] 2 ≡ Ok t
 unfolding reading
 reading-post_order t = ap (λ items. reading items [] 2) (sym (append-nil (post_order t))) ∙ reading-tree t [] [] 2
 
+-- fewer than two trees are too few for an operation
 few_trees : (us : List Tree) (o : Operation) (rest : List Item) (index : ℕ) → length us < 2 → combined o (reading rest) (pushed us []) index ≡ Err index
 few_trees [] o rest index few = refl
 few_trees (t ∷ []) o rest index few = refl
 few_trees (t ∷ u ∷ us) o rest index few = absurd (omega (arith, few))
 
+-- an operation that lacks operands is read as a fault at its parameter
 pub reading-short : (n : ℕ) (items : List Item) → LacksOperands n items → reading items [] 2 ≡ Err n
 reading-short n items h =
     let ts = h.trees in
@@ -83,11 +87,13 @@ reading-short n items h =
     let place : index ≡ n = omega (arith, h.place) in
     ap (λ items. reading items [] 2) h.spelt ∙ front ∙ last ∙ few_trees ts h.operation h.rest index h.few ∙ ap (λ k. Err k) place
 
+-- none or several trees are a fault at the end
 not_one_tree : (us : List Tree) → length us ≢ 1 → ending us ≡ Err 1
 not_one_tree [] other = refl
 not_one_tree (t ∷ []) other = absurd (other refl)
 not_one_tree (t ∷ u ∷ us) other = refl
 
+-- none or several whole trees are read as a fault at parameter 1
 pub reading-others : (items : List Item) → LeavesOthers items → reading items [] 2 ≡ Err 1
 unfolding reading
 reading-others items h =
@@ -116,6 +122,7 @@ answer-fault n items h = ap (λ r. answer_of r) (reading-fault n items h)
 abbrev pub Says : List Item → Option ℕ → Type 0
 Says items answer = MatchOption answer (IsPostOrder items) (λ n. IsFault n items)
 
+-- an answer that says what holds is the reading's
 said : (items : List Item) (answer : Option ℕ) → Says items answer → answer_of (reading items [] 2) ≡ answer
 said items None h = answer-tree items h
 said items (Some n) h = answer-fault n items h
@@ -132,6 +139,7 @@ abbrev tree_of : Result Tree ℕ → Tree → Tree
 tree_of (Ok t) other = t
 tree_of (Err n) other = other
 
+-- two trees with one list are one tree
 pub one_tree_only : (t u : Tree) → post_order t ≡ post_order u → t ≡ u
 one_tree_only t u same =
     let both : Ok t ≡ Ok u = sym (reading-post_order t) ∙ ap (λ items. reading items [] 2) same ∙ reading-post_order u in

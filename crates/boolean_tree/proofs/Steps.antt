@@ -20,6 +20,7 @@ one_more t ts =
     let last : reverse (t ∷ ts) ≡ reverse ts ++ t ∷ [] = reverse-append (t ∷ []) ts in
     ap (flat_map post_order) last ∙ flat_map-append post_order (reverse ts) (t ∷ []) ∙ ap (λ items. flat_map post_order (reverse ts) ++ items) (append-nil (post_order t))
 
+-- before the first item stands no tree
 pub no_items : (items : List Item) → AreTrees items 0 0
 no_items items = record { trees = []; number = refl; spelt = refl }
 
@@ -27,6 +28,7 @@ no_items items = record { trees = []; number = refl; spelt = refl }
 next : (items : List Item) (at : ℕ) (d : Item) (i : Item) → at < length items → get_or items at d ≡ i → take (at + 1) items ≡ take at items ++ i ∷ []
 next items at d i room is = rw add-one (take-suc items at d room ∙ ap (λ x. take at items ++ x ∷ []) is)
 
+-- an operand is a tree more
 pub operand_next : (items : List Item) (at count : ℕ) (d : Item) (e : ℕ) → at < length items → get_or items at d ≡ item.Operand e → AreTrees items at count → AreTrees items (at + 1) (count + 1)
 operand_next items at count d e room is h = record {
   trees = operand e ∷ h.trees;
@@ -34,6 +36,7 @@ operand_next items at count d e room is h = record {
   spelt = next items at d (item.Operand e) room is ∙ ap (λ front. front ++ item.Operand e ∷ []) h.spelt ∙ sym (one_more (operand e) h.trees);
 }
 
+-- the last two trees and an operation are one tree
 combined : (o : Operation) (b a : Tree) (ts : List Tree) → flat_map post_order (reverse (b ∷ a ∷ ts)) ++ item_of o ∷ [] ≡ flat_map post_order (reverse (combination o a b ∷ ts))
 combined o b a ts =
     let front = flat_map post_order (reverse ts) in
@@ -41,6 +44,7 @@ combined o b a ts =
     let glue : ((front ++ post_order a) ++ post_order b) ++ item_of o ∷ [] ≡ front ++ (post_order a ++ post_order b ++ item_of o ∷ []) = simp append_assoc in
     ap (λ items. items ++ item_of o ∷ []) two ∙ glue ∙ sym (one_more (combination o a b) ts)
 
+-- two trees or more, and an operation behind them
 operation_on : (items : List Item) (at count : ℕ) (o : Operation) (ts : List Tree) → take (at + 1) items ≡ flat_map post_order (reverse ts) ++ item_of o ∷ [] → length ts ≡ count → 2 ≤ count → AreTrees items (at + 1) (count - 1)
 operation_on items at count o [] spelt number two = absurd (omega (arith, number, two))
 operation_on items at count o (b ∷ []) spelt number two = absurd (omega (arith, number, two))
@@ -56,10 +60,12 @@ operation_of i (inl e) = (union, e)
 operation_of i (inr (inl e)) = (intersection, e)
 operation_of i (inr (inr e)) = (difference, e)
 
+-- an operation leaves one tree in place of two
 pub operation_next : (items : List Item) (at count : ℕ) (d : Item) (o : Operation) → at < length items → get_or items at d ≡ item_of o → 2 ≤ count → AreTrees items at count → AreTrees items (at + 1) (count - 1)
 operation_next items at count d o room is two h =
     operation_on items at count o h.trees (next items at d (item_of o) room is ∙ ap (λ front. front ++ item_of o ∷ []) h.spelt) h.number two
 
+-- an operation with fewer than two trees before it
 pub lacks : (items : List Item) (at count : ℕ) (d : Item) (o : Operation) → at < length items → get_or items at d ≡ item_of o → count < 2 → AreTrees items at count → LacksOperands (at + 2) items
 lacks items at count d o room is few h =
     let cut : items ≡ take at items ++ item_of o ∷ drop (at + 1) items =
@@ -74,6 +80,7 @@ lacks items at count d o room is few h =
       place = omega (arith, long);
     }
 
+-- behind the last item the trees are all of the list
 all_spelt : (items : List Item) (at count : ℕ) → length items ≤ at → (h : AreTrees items at count) → items ≡ flat_map post_order (reverse h.trees)
 all_spelt items at count done h = sym (take_all at items done) ∙ h.spelt
 
@@ -82,9 +89,11 @@ only_tree items [] spelt one = absurd (omega (arith, one))
 only_tree items (t ∷ []) spelt one = (t, spelt ∙ append-nil (post_order t))
 only_tree items (t ∷ u ∷ ts) spelt one = absurd (omega (arith, one))
 
+-- one tree at the end is the list's
 pub one_left : (items : List Item) (at count : ℕ) → length items ≤ at → count ≡ 1 → AreTrees items at count → IsPostOrder items
 one_left items at count done one h = only_tree items h.trees (all_spelt items at count done h) (h.number ∙ one)
 
+-- none or several trees at the end
 pub others_left : (items : List Item) (at count : ℕ) → length items ≤ at → count ≢ 1 → AreTrees items at count → LeavesOthers items
 others_left items at count done other h = record {
   trees = reverse h.trees;
