@@ -1,0 +1,4 @@
+pub mod Readings
+pub mod Steps
+pub mod Fronts
+pub mod StandardFacts
