@@ -106,3 +106,22 @@ impl<T: Copy> List<T> {
         self.items.extend_from_slice(items)
     }
 }
+
+#[cfg(test)]
+mod tests {
+    use super::*;
+
+    #[test]
+    fn grows_at_the_end(rt: HostRuntime) -> Result<(), AllocError> {
+        let mut numbers = Numbers::new(rt.alloc());
+        assert!(rt; numbers.is_empty());
+        numbers.push(7)?;
+        numbers.extend_from_slice(&[1, 2])?;
+        numbers.extend_from_slice(&[])?;
+        numbers.push(9)?;
+        assert!(rt; !numbers.is_empty());
+        assert_eq!(rt; numbers.len(), 4);
+        assert_eq!(rt; numbers.as_slice(), [7, 1, 2, 9].as_slice());
+        Ok(())
+    }
+}

@@ -81,3 +81,34 @@ impl Rows {
         Ok(Rows { items })
     }
 }
+
+#[cfg(test)]
+mod tests {
+    use super::*;
+    use crate::lists::{Bytes, List};
+    use crate::solids::Row;
+
+    #[test]
+    fn shares_the_same_entities_in_order(rt: HostRuntime) -> Result<(), AllocError> {
+        let alloc = rt.alloc();
+        let mut rows = Rows::new(alloc);
+        for kind in [0, 158, 180] {
+            let row = Row::Opaque {
+                kind,
+                form: 0,
+                matrix: 0,
+                text: Bytes::new(alloc),
+            };
+            let entity = Entity {
+                row,
+                attrs: Bytes::new(alloc),
+                tail: List::new(alloc),
+            };
+            rows.push(Arc::new(alloc, entity)?)?;
+        }
+        let shared = rows.share(alloc)?;
+        assert_eq!(rt; shared.len(), rows.len());
+        assert!(rt; shared.as_slice() == rows.as_slice());
+        Ok(())
+    }
+}
