@@ -1,0 +1,10 @@
+pub mod Telling
+pub mod FieldLaws
+pub mod GlobalLaws
+pub mod FieldSteps
+pub mod DirectoryForms
+pub mod FaultForms
+pub mod NumberForms
+pub mod NumberLaws
+pub mod PairForms
+pub mod PairSteps

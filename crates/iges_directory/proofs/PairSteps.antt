@@ -1,0 +1,75 @@
+-- How reading goes on from pair to pair.
+use Rattle.std.proofs.Common.{◌≡◌, ◌≢◌, ℕ, ◌+◌, ◌-◌, ◌*◌, ◌%◌, ◌<◌, ◌≤◌, ◌==◌, nat_lt, List, [], ◌∷◌, ◌++◌, true, false, length, take, drop, slice_index_or, Result, Ok, Err, refl, sym, ap, subst, ◌∙◌, arith}
+use Rattle.std.proofs.lemmas.List.{take_rest}
+use Rattle.std.specs.List.{AllByRecursion}
+use Rattle.iges_directory.specs.declared.directory_faults.DirFault.{DirFault}
+use Rattle.iges_directory.specs.declared.directory_faults.DirFault.TheVariants as fault
+use Rattle.iges_directory.specs.declared.pairs.Pair.{Pair}
+use Rattle.iges_directory.specs.Pairs.{text_of}
+use Rattle.iges_directory.specs.DirectoryReading.{pair_in, pairs_from, directory_in}
+
+not_same : (n m : ℕ) → n ≢ m → (n == m) ≡ false
+not_same n m h = grind arith
+
+same : (n m : ℕ) → n ≡ m → (n == m) ≡ true
+same n m h = grind arith
+
+less : (n m : ℕ) → n < m → nat_lt n m ≡ true
+less n m h = grind arith
+
+not_less : (n m : ℕ) → m ≤ n → nat_lt n m ≡ false
+not_less n m h = grind arith
+
+-- ---- before the first pair
+
+pub is_odd : (params : ℕ) (lines : List (List ℕ)) → length lines % 2 ≢ 0 → directory_in params lines ≡ Err fault.OddLines
+unfolding directory_in
+is_odd params lines h = rw (not_same (length lines % 2) 0 h) refl
+
+pub too_many : (params : ℕ) (lines : List (List ℕ)) → length lines % 2 ≡ 0 → 200000 < length lines → directory_in params lines ≡ Err fault.TooManyEntities
+unfolding directory_in
+too_many params lines h k = rw (same (length lines % 2) 0 h, less 200000 (length lines) k) refl
+
+pub starts : (params : ℕ) (lines : List (List ℕ)) → length lines % 2 ≡ 0 → length lines ≤ 200000 → pairs_from params [] lines ≡ directory_in params lines
+unfolding directory_in
+starts params lines h k = rw (same (length lines % 2) 0 h, not_less 200000 (length lines) k) refl
+
+-- ---- a pair
+
+-- lines that begin with these two
+pub begins : (lines : List (List ℕ)) (one two : List ℕ) → 2 ≤ length lines → one ≡ slice_index_or lines 0 one → two ≡ slice_index_or lines 1 two → lines ≡ one ∷ two ∷ take (length lines - 2) (drop 2 lines)
+begins [] one two h p q = absurd (omega arith)
+begins (x ∷ []) one two h p q = absurd (omega arith)
+begins (x ∷ y ∷ lines) one two h p q = let first : one ≡ x = p in let second : two ≡ y = q in rw (first, second, take_rest) refl
+
+pub eighty_first : (lines behind : List (List ℕ)) (one two : List ℕ) → lines ≡ one ∷ two ∷ behind → AllByRecursion (λ line. length line ≡ 80) lines → (length one ≡ 80) × (length two ≡ 80) × AllByRecursion (λ line. length line ≡ 80) behind
+eighty_first lines behind one two e h =
+    let all : AllByRecursion (λ line. length line ≡ 80) (one ∷ two ∷ behind) = subst (AllByRecursion (λ line. length line ≡ 80)) e h in
+    (all.0, all.1.0, all.1.1)
+
+pub text_more : (pairs : List Pair) (pair : Pair) → text_of (pairs ++ pair ∷ []) ≡ text_of pairs + pair.count
+text_more [] pair = omega arith
+text_more (x ∷ pairs) pair = omega (arith, text_more pairs pair)
+
+pub goes_on : (params text entity : ℕ) (pairs : List Pair) (pair : Pair) (lines behind : List (List ℕ)) (one two : List ℕ) (total : Result (List Pair) DirFault) → lines ≡ one ∷ two ∷ behind → text ≡ text_of pairs → entity ≡ 2 * length pairs + 1
+    → pair_in params text entity one two ≡ Ok pair → pairs_from params pairs lines ≡ total → pairs_from params (pairs ++ pair ∷ []) behind ≡ total
+unfolding pairs_from
+goes_on params text entity pairs pair lines behind one two total e t n k so_far =
+    let here : pair_in params (text_of pairs) (2 * length pairs + 1) one two ≡ Ok pair = ap (λ m. pair_in params m (2 * length pairs + 1) one two) (sym t) ∙ ap (λ m. pair_in params text m one two) (sym n) ∙ k in
+    let on : pairs_from params pairs (one ∷ two ∷ behind) ≡ pairs_from params (pairs ++ pair ∷ []) behind = rw here refl in
+    sym on ∙ ap (pairs_from params pairs) (sym e) ∙ so_far
+
+pub stops : (params text entity : ℕ) (pairs : List Pair) (found : DirFault) (lines behind : List (List ℕ)) (one two : List ℕ) (total : Result (List Pair) DirFault) → lines ≡ one ∷ two ∷ behind → text ≡ text_of pairs → entity ≡ 2 * length pairs + 1
+    → pair_in params text entity one two ≡ Err found → pairs_from params pairs lines ≡ total → total ≡ Err found
+unfolding pairs_from
+stops params text entity pairs found lines behind one two total e t n k so_far =
+    let here : pair_in params (text_of pairs) (2 * length pairs + 1) one two ≡ Err found = ap (λ m. pair_in params m (2 * length pairs + 1) one two) (sym t) ∙ ap (λ m. pair_in params text m one two) (sym n) ∙ k in
+    let on : pairs_from params pairs (one ∷ two ∷ behind) ≡ Err found = rw here refl in
+    sym so_far ∙ ap (pairs_from params pairs) e ∙ on
+
+-- no pair is left
+pub ends : (params : ℕ) (pairs : List Pair) (lines : List (List ℕ)) (total : Result (List Pair) DirFault) → length lines < 2 → pairs_from params pairs lines ≡ total → total ≡ Ok pairs
+unfolding pairs_from
+ends params pairs [] total h so_far = sym so_far
+ends params pairs (one ∷ []) total h so_far = sym so_far
+ends params pairs (one ∷ two ∷ lines) total h so_far = absurd (omega arith)
