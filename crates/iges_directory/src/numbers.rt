@@ -1,30 +1,16 @@
 ghost use Rattle.std.specs.Prelude.{◌≡◌, ◌≤◌, ℕ, length, take, All, IsTrue};
 ghost use Rattle.std.specs.List.{prefix_len, list_all};
 ghost use Rattle.solid_base.specs.Digits.{is_digit, number_of};
-ghost use Rattle.solid_base.specs.Spelling.{is_blank, behind_blanks, behind_sign};
+ghost use Rattle.solid_base.specs.Spelling.{is_blank, behind_sign};
 ghost use Rattle.iges_directory.specs.ColumnNumbers.{number_in};
+
+use iges_fields::behind_blanks;
 
 /// Whether there are blanks alone, spaces or tabs.
 pub fn are_blanks(columns: &[u8]) -> bool
     ensures { result ≡ list_all is_blank columns.now }
 {
     columns.iter().all(|b| *b == b' ' || *b == b'\t')
-}
-
-fn blank_count(text: &[u8]) -> usize
-    ensures within { result ≤ length text.now }
-    ensures value { result ≡ prefix_len is_blank text.now }
-{
-    text.iter()
-        .take_while(|b| **b == b' ' || **b == b'\t')
-        .count()
-}
-
-fn after_blanks(text: &[u8]) -> &[u8]
-    ensures value { result.now ≡ behind_blanks text.now }
-    ensures within { length result.now ≤ length text.now }
-{
-    &text[blank_count(text)..]
 }
 
 fn after_sign(text: &[u8]) -> &[u8]
@@ -67,7 +53,7 @@ pub fn number_in(columns: &[u8]) -> Option<u32>
     requires { length columns.now ≤ 8 }
     ensures { result ≡ number_in columns.now }
 {
-    let text = after_blanks(columns);
+    let text = behind_blanks(columns);
     if text.is_empty() {
         return Some(0);
     }
