@@ -4,7 +4,7 @@ use Rattle.std.proofs.Math.Seq.{take-append_seam}
 use Rattle.std.proofs.lemmas.List.{append-nil}
 use Rattle.solid_base.specs.declared.solids.Item.{Item}
 use Rattle.solid_base.specs.declared.solids.Item.TheVariants as item
-use Rattle.boolean_tree.specs.Trees.{union, Tree, operand, combination, item_of, post_order, IsPostOrder, IsFront}
+use Rattle.solid_base.specs.Trees.{union, Tree, operand, combination, item_of, post_order, IsPostOrder, IsFront}
 use Rattle.boolean_tree.specs.Faults.{LacksOperands, LeavesOthers}
 use Rattle.boolean_tree.proofs.Readings.{reading, reading-post_order, reading-short, reading-others}
 

@@ -3,7 +3,7 @@ use Rattle.std.proofs.Common.{◌≡◌, ◌≢◌, ◌↔◌, inl, inr, ℕ, �
 use Rattle.std.proofs.lemmas.List.{append-nil}
 use Rattle.solid_base.specs.declared.solids.Item.{Item}
 use Rattle.solid_base.specs.declared.solids.Item.TheVariants as item
-use Rattle.boolean_tree.specs.Trees.{Operation, union, intersection, difference, Tree, operand, combination, item_of, post_order, IsPostOrder}
+use Rattle.solid_base.specs.Trees.{Operation, union, intersection, difference, Tree, operand, combination, item_of, post_order, IsPostOrder}
 use Rattle.boolean_tree.specs.Faults.{LacksOperands, LeavesOthers, IsFault}
 
 -- the trees behind the last item: one, or a fault at parameter 1

@@ -2,7 +2,7 @@
 use Rattle.std.proofs.Common.{◌≡◌, List, [], ◌∷◌, refl, arith}
 use Rattle.solid_base.specs.declared.solids.Item.{Item}
 use Rattle.solid_base.specs.declared.solids.Item.TheVariants.{Operand, Join, Meet, Less}
-use Rattle.boolean_tree.specs.Trees.{union, intersection, difference, operand, combination, post_order, IsPostOrder}
+use Rattle.solid_base.specs.Trees.{union, intersection, difference, operand, combination, post_order, IsPostOrder}
 use Rattle.boolean_tree.specs.Faults.{LacksOperands, LeavesOthers}
 
 -- entity 1 less the union of entities 3 and 5

@@ -1,7 +1,7 @@
 -- solidd's own: where a list of items stops to be one tree in post-order. The record's parameter 1 is the number of items, and the items stand from parameter 2 on.
 use Rattle.std.specs.Prelude.{◌≡◌, ◌≢◌, ◌⊎◌, ℕ, ◌+◌, ◌<◌, List, ◌∷◌, ◌++◌, length, flat_map}
 use Rattle.solid_base.specs.declared.solids.Item.{Item}
-use Rattle.boolean_tree.specs.Trees.{Operation, Tree, item_of, post_order}
+use Rattle.solid_base.specs.Trees.{Operation, Tree, item_of, post_order}
 
 -- solidd's own: parameter n is an operation, and before it stand fewer than two trees, whole and in post-order
 pub record LacksOperands (n : ℕ) (items : List Item) : Type 0 where

@@ -1,5 +1,5 @@
 ghost use Rattle.std.specs.Prelude.{◌≡◌, ◌↔◌, ◌≤◌, ◌-◌, ◌^◌, ℕ, length};
-ghost use Rattle.boolean_tree.specs.Trees.{IsPostOrder};
+ghost use Rattle.solid_base.specs.Trees.{IsPostOrder};
 ghost use Rattle.boolean_tree.specs.Faults.{IsFault};
 
 use solid_base::{Item, Items};

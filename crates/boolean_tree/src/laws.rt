@@ -1,6 +1,6 @@
 ghost use Rattle.std.specs.Prelude.{◌≡◌, ◌-◌, ℕ, List, take};
 ghost use Rattle.solid_base.specs.declared.solids.Item.{Item};
-ghost use Rattle.boolean_tree.specs.Trees.{Tree, post_order, IsPostOrder, IsFront};
+ghost use Rattle.solid_base.specs.Trees.{Tree, post_order, IsPostOrder, IsFront};
 ghost use Rattle.boolean_tree.specs.Faults.{LacksOperands, LeavesOthers};
 
 /// A list is the post-order of at most one tree.

@@ -2,3 +2,5 @@ pub mod Digits
 pub mod Spelling
 pub mod Decimal
 pub mod Range
+pub mod Trees
+pub mod Ranges

@@ -1,5 +1,5 @@
 //! The types that all crates of solidd share: lists that contracts see as lists, points in steps,
-//! primitives, rows and entities of a model, classes, replies and ledgers.
+//! primitives, rows and entities of a model, classes, replies and ledgers, and the writers of words.
 //! Contracts see each list as the list of its items, and each other type as the record of its fields.
 #![tactic(auto)]
 
@@ -11,15 +11,17 @@ mod lists;
 mod replies;
 mod rows;
 mod solids;
+mod words;
 
 pub use classes::Class;
 pub use entities::{Entity, Model, RowText, Token, Tokens};
-pub use geometry::{Affine, Vec3};
+pub use geometry::{Affine, Cube, Vec3};
 pub use ledger::{Ledger, NoTally, Tally};
 pub use lists::{Bytes, Lines, List, Numbers};
 pub use replies::Reply;
 pub use rows::Rows;
 pub use solids::{Item, Items, Placed, PlacedList, Prim, Row};
+pub use words::{push_decimal, word, word_and_number};
 
 /// The steps in one unit: every length and coordinate is a whole number of steps of 10^-12 units.
 pub const U: i128 = 1_000_000_000_000;
