@@ -1,5 +1,6 @@
 //! The types that all crates of solidd share: lists that contracts see as lists, points in steps,
-//! primitives, rows and entities of a model, classes, replies and ledgers, and the writers of words.
+//! primitives, rows and entities of a model, classes, replies and ledgers, the readers of digits and
+//! the writers of words.
 //! Contracts see each list as the list of its items, and each other type as the record of its fields.
 #![tactic(auto)]
 
@@ -10,6 +11,7 @@ mod ledger;
 mod lists;
 mod replies;
 mod rows;
+mod scan;
 mod solids;
 mod words;
 
@@ -20,6 +22,7 @@ pub use ledger::{Ledger, NoTally, Tally};
 pub use lists::{Bytes, Lines, List, Numbers};
 pub use replies::Reply;
 pub use rows::Rows;
+pub use scan::{after_sign, are_blanks, behind_blanks, digit_count, number_up_to};
 pub use solids::{Item, Items, Placed, PlacedList, Prim, Row};
 pub use words::{push_decimal, word, word_and_number};
 
