@@ -1,31 +1,12 @@
-ghost use Rattle.std.specs.Prelude.{◌≡◌, ◌≤◌, min, length, take, cond};
+ghost use Rattle.std.specs.Prelude.{◌≡◌, ◌≤◌, min, cond};
 ghost use Rattle.solid_base.specs.Digits.{number_of};
-ghost use Rattle.solid_base.specs.Spelling.{digit_count, behind_sign, is_whole};
+ghost use Rattle.solid_base.specs.Spelling.{behind_sign, is_whole};
 ghost use Rattle.decimal_scale.specs.Reading.{past, number_after, AllDigits};
+
+use solid_base::{after_sign, digit_count, number_up_to};
 
 /// The least magnitude in steps that is too big.
 pub const PAST: u64 = 1_000_000_000_000_000_001;
-
-/// How many digits stand in front of a text.
-pub fn digit_count(text: &[u8]) -> usize
-    ensures within { result ≤ length text.now }
-    ensures digits { AllDigits (take result text.now) }
-    ensures value { result ≡ digit_count text.now }
-{
-    text.iter()
-        .take_while(|b| **b >= b'0' && **b <= b'9')
-        .count()
-}
-
-/// The text behind its sign.
-pub fn after_sign(text: &[u8]) -> &[u8]
-    ensures { result.now ≡ behind_sign text.now }
-{
-    match text {
-        [b'+' | b'-', rest @ ..] => rest,
-        _ => text,
-    }
-}
 
 /// The number that digits spell behind the digits of a number, or `PAST` where it is larger.
 pub fn continued(start: u64, digits: &[u8]) -> u64
@@ -51,19 +32,5 @@ pub fn power(text: &[u8]) -> Option<u64>
     if count == 0 || count != digits.len() {
         return None;
     }
-    Some(number_in(digits))
-}
-
-/// The number that digits spell, or the greatest `u64`.
-fn number_in(digits: &[u8]) -> u64
-    requires { AllDigits digits.now }
-    ensures { result ≡ min (number_of digits.now) u64.MAX }
-{
-    let mut number: u64 = 0;
-    for b in digits {
-        number = number
-            .saturating_mul(10)
-            .saturating_add(u64::from(*b - b'0'));
-    }
-    number
+    Some(number_up_to(digits, u64::MAX))
 }

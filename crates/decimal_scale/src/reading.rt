@@ -4,9 +4,10 @@ ghost use Rattle.solid_base.specs.Spelling.{Sign, IsNumeral, sign_of, behind_sig
 ghost use Rattle.solid_base.specs.Decimal.{IsReading, nearest, raised_by, lowered_by, with_sign};
 ghost use Rattle.decimal_scale.specs.Reading.{past, is_minus, in_range, sized, reading_of, AllDigits};
 
-use crate::digits::{PAST, after_sign, digit_count, power};
+use crate::digits::{PAST, power};
 use crate::faults::RealFault;
 use crate::scaling::magnitude;
+use solid_base::{after_sign, digit_count};
 
 /// The steps, of 10^-12 units, that a whole or real number is read as (IGES 5.3, 2.2.2.1 and 2.2.2.2,
 /// and solidd's own small letters `e` and `d`): its exact value in steps, rounded to the nearest whole
