@@ -5,6 +5,5 @@ pub mod FieldSteps
 pub mod DirectoryForms
 pub mod FaultForms
 pub mod NumberForms
-pub mod NumberLaws
 pub mod PairForms
 pub mod PairSteps

@@ -7,8 +7,8 @@ ghost use Rattle.iges_directory.specs.GlobalReading.{told, first_in, second_in};
 ghost use Rattle.iges_directory.specs.GlobalSteps.{TellsFirst, TellsSecond, IsContent, IsOtherFault};
 
 use crate::global_faults::GlobalFault;
-use iges_fields::{Field, FieldKind, Fields, behind_blanks};
-use solid_base::{Bytes, Token, Tokens};
+use iges_fields::{Field, FieldKind, Fields};
+use solid_base::{Bytes, Token, Tokens, behind_blanks};
 use std::alloc::{AllocError, Global};
 
 /// What a global section holds.

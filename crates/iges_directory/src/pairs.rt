@@ -6,8 +6,8 @@ ghost use Rattle.iges_directory.specs.DirectoryReading.{Gives, within, type_in, 
 ghost use Rattle.std.specs.List.{list_all};
 
 use crate::directory_faults::DirFault;
-use crate::numbers::{are_blanks, number_in};
-use solid_base::Bytes;
+use crate::numbers::number_in;
+use solid_base::{Bytes, are_blanks};
 use std::alloc::{AllocError, Global};
 
 /// The greatest type or form.

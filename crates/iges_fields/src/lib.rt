@@ -14,4 +14,3 @@ pub use faults::FieldFault;
 pub use kinds::{Field, FieldKind};
 pub use layouts::lay;
 pub use readers::Fields;
-pub use scan::behind_blanks;

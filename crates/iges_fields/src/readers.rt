@@ -5,6 +5,7 @@ ghost use Rattle.iges_fields.specs.Readers.{Gives};
 use crate::faults::FieldFault;
 use crate::kinds::{Field, FieldKind};
 use crate::scan;
+use solid_base::{behind_blanks, digit_count, number_up_to};
 use std::marker::Model;
 
 /// A field, what stands behind its delimiter, and whether that delimiter ends the record.
@@ -48,13 +49,7 @@ fn text_at<'a>(count: usize, bytes: &'a [u8], comma: u8, semi: u8) -> Result<Fou
         return Err(FieldFault::BadText);
     }
     let (text, behind) = bytes.split_at(count);
-    delimited(
-        FieldKind::Text,
-        text,
-        scan::behind_blanks(behind),
-        comma,
-        semi,
-    )
+    delimited(FieldKind::Text, text, behind_blanks(behind), comma, semi)
 }
 
 fn word_at<'a>(bytes: &'a [u8], comma: u8, semi: u8) -> Result<Found<'a>, FieldFault>
@@ -71,10 +66,11 @@ fn word_at<'a>(bytes: &'a [u8], comma: u8, semi: u8) -> Result<Found<'a>, FieldF
 fn content_at<'a>(bytes: &'a [u8], comma: u8, semi: u8) -> Result<Found<'a>, FieldFault>
     ensures { Gives result (content_at comma semi bytes.now) }
 {
-    let count = scan::digit_count(bytes);
+    let count = digit_count(bytes);
     let (digits, behind) = bytes.split_at(count);
     if scan::is_counted(count, behind) {
-        text_at(scan::count_of(digits), &behind[1..], comma, semi)
+        let size = number_up_to(digits, u64::MAX) as usize;
+        text_at(size, &behind[1..], comma, semi)
     } else {
         word_at(bytes, comma, semi)
     }
@@ -84,7 +80,7 @@ fn content_at<'a>(bytes: &'a [u8], comma: u8, semi: u8) -> Result<Found<'a>, Fie
 fn field_at<'a>(text: &'a [u8], comma: u8, semi: u8) -> Result<Found<'a>, FieldFault>
     ensures { Gives result (field_at comma semi text.now) }
 {
-    content_at(scan::behind_blanks(text), comma, semi)
+    content_at(behind_blanks(text), comma, semi)
 }
 
 /// A reader of the fields of a record's text, which it borrows.

@@ -1,19 +1,10 @@
-ghost use Rattle.std.specs.Prelude.{◌≡◌, ◌≤◌, ◌<◌, length, take, min, IsTrue};
-ghost use Rattle.std.specs.List.{prefix_len, suffix_len};
-ghost use Rattle.solid_base.specs.Digits.{AreDigits, number_of};
-ghost use Rattle.solid_base.specs.Spelling.{is_blank, behind_blanks, before_blanks, digit_count, behind_sign, is_whole, is_exponent, class_behind, class_of};
+ghost use Rattle.std.specs.Prelude.{◌≡◌, ◌≤◌, ◌<◌, length, IsTrue};
+ghost use Rattle.std.specs.List.{suffix_len};
+ghost use Rattle.solid_base.specs.Spelling.{is_blank, before_blanks, is_whole, is_exponent, class_behind, class_of};
 ghost use Rattle.iges_fields.specs.Reading.{bytes_before, is_counted, kind_of};
 
 use crate::kinds::FieldKind;
-
-fn blanks_before(text: &[u8]) -> usize
-    ensures within { result ≤ length text.now }
-    ensures value { result ≡ prefix_len is_blank text.now }
-{
-    text.iter()
-        .take_while(|b| **b == b' ' || **b == b'\t')
-        .count()
-}
+use solid_base::{after_sign, digit_count};
 
 fn blanks_behind(text: &[u8]) -> usize
     ensures within { result ≤ length text.now }
@@ -25,27 +16,11 @@ fn blanks_behind(text: &[u8]) -> usize
         .count()
 }
 
-/// The text without the blanks before it.
-pub fn behind_blanks(text: &[u8]) -> &[u8]
-    ensures { result.now ≡ behind_blanks text.now }
-{
-    &text[blanks_before(text)..]
-}
-
 /// The text without the blanks behind it.
 pub fn before_blanks(text: &[u8]) -> &[u8]
     ensures { result.now ≡ before_blanks text.now }
 {
     &text[..text.len() - blanks_behind(text)]
-}
-
-/// How many digits stand in front.
-pub fn digit_count(text: &[u8]) -> usize
-    ensures within { result ≤ length text.now }
-    ensures digits { AreDigits (take result text.now) }
-    ensures value { result ≡ digit_count text.now }
-{
-    text.iter().take_while(|b| b.is_ascii_digit()).count()
 }
 
 /// How many bytes stand before the first delimiter.
@@ -58,20 +33,6 @@ pub fn bytes_before(text: &[u8], comma: u8, semi: u8) -> usize
         .count()
 }
 
-/// The number that digits spell, or the greatest of its type.
-pub fn count_of(digits: &[u8]) -> usize
-    requires { AreDigits digits.now }
-    ensures { result ≡ min (number_of digits.now) usize.MAX }
-{
-    let mut count: usize = 0;
-    for b in digits {
-        count = count
-            .saturating_mul(10)
-            .saturating_add(usize::from(*b - b'0'));
-    }
-    count
-}
-
 /// Whether an H stands behind so many digits, of which there is one at least.
 pub fn is_counted(count: usize, behind: &[u8]) -> bool
     ensures some { IsTrue result → 0 < length behind.now }
@@ -80,19 +41,10 @@ pub fn is_counted(count: usize, behind: &[u8]) -> bool
     count != 0 && behind.first() == Some(&b'H')
 }
 
-fn behind_sign(text: &[u8]) -> &[u8]
-    ensures { result.now ≡ behind_sign text.now }
-{
-    match text {
-        [b'+' | b'-', rest @ ..] => rest,
-        _ => text,
-    }
-}
-
 fn is_whole(text: &[u8]) -> bool
     ensures { result ≡ is_whole text.now }
 {
-    let digits = behind_sign(text);
+    let digits = after_sign(text);
     let count = digit_count(digits);
     count != 0 && count == digits.len()
 }
@@ -133,7 +85,7 @@ pub fn kind_of(text: &[u8]) -> Option<FieldKind>
     if text.is_empty() {
         return Some(FieldKind::Empty);
     }
-    let number = behind_sign(text);
+    let number = after_sign(text);
     let count = digit_count(number);
     kind_behind(count, &number[count..])
 }

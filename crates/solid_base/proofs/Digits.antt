@@ -1,6 +1,6 @@
 -- The number that digits spell.
 use Rattle.std.proofs.Common.{◌≡◌, ℕ, zero, suc, ◌+◌, ◌-◌, ◌*◌, ◌^◌, ◌<◌, ◌≤◌, List, [], ◌∷◌, ◌++◌, length, take, drop, get_or, fold, refl, IsTrue, arith, ◌∙◌, mul-le-mul}
-use Rattle.std.proofs.Math.Nat.{pow-suc}
+use Rattle.std.proofs.Math.Nat.{pow-suc, pow-le-pow_right}
 use Rattle.std.proofs.lemmas.List.Sums.{fold-append}
 use Rattle.std.proofs.lemmas.Bool.Decides.{nat_tests}
 use Rattle.solid_base.specs.Digits.{is_digit, AreDigits, number_of}
@@ -33,6 +33,13 @@ number_of_less (b ∷ bs) h =
     let d = digit_within b h.0 in
     let m : (b - 48) * 10 ^ length bs ≤ 9 * 10 ^ length bs = mul-le-mul (omega arith) (omega arith) in
     rw (number_of-cons b bs, pow-suc 10 (length bs)) (omega arith)
+
+-- at most so many digits spell a number of so many digits
+pub number_of_below : (k : ℕ) (bs : List ℕ) → AreDigits bs → length bs ≤ k → number_of bs < 10 ^ k
+number_of_below k bs h short =
+    let less = number_of_less bs h in
+    let more : 10 ^ length bs ≤ 10 ^ k = pow-le-pow_right (omega arith) short in
+    omega arith
 
 pub digits_append : (xs ys : List ℕ) → AreDigits xs → AreDigits ys → AreDigits (xs ++ ys)
 digits_append [] ys h k = k
