@@ -9,7 +9,8 @@ use Rattle.iges_cards.specs.declared.sections.Section.{Section}
 use Rattle.iges_cards.specs.declared.sections.Section.TheVariants as section
 use Rattle.iges_cards.specs.Checks.{◌>>=◌, columns_in, is_other_form, allowed, section_behind, card_in, group_in, told, told_in, same_count, terminated}
 use Rattle.iges_cards.specs.Grammar.{IsGroup, HasGroups}
-use Rattle.iges_cards.specs.Lines.{is_blank, HasColumns}
+use Rattle.solid_base.specs.Spelling.{is_blank}
+use Rattle.iges_cards.specs.Lines.{HasColumns}
 use Rattle.iges_cards.specs.Numbers.{IsNumber, number_in, is_same}
 use Rattle.iges_cards.specs.Sections.{letter_of, section_of, may_follow, count_of, lines_in, one_more, AreFew}
 use Rattle.iges_cards.proofs.NumberLaws.{all_test, test_all, number_again, number_takes, number_below}

@@ -8,7 +8,8 @@ use Rattle.iges_cards.specs.declared.sections.Counts.{Counts}
 use Rattle.iges_cards.specs.declared.sections.Section.{Section}
 use Rattle.iges_cards.specs.declared.sections.Section.TheVariants as section
 use Rattle.iges_cards.specs.Checks.{◌>>=◌, columns_in, is_other_form, allowed, group_in, section_behind, card_in, told, told_in, same_count, terminated}
-use Rattle.iges_cards.specs.Lines.{is_blank, line_texts, line_of}
+use Rattle.solid_base.specs.Spelling.{is_blank}
+use Rattle.iges_cards.specs.Lines.{line_texts, line_of}
 use Rattle.iges_cards.specs.Numbers.{is_same, number_in}
 use Rattle.iges_cards.specs.Reading.{keep, no_cards, read_from, cards_in}
 use Rattle.iges_cards.specs.Sections.{letter_of, section_of, may_follow, width_of, is_terminate, count_of, one_more, lines_in, no_lines}

@@ -1,7 +1,6 @@
 pub mod AgainLaws
 pub mod CardLaws
 pub mod CheckLaws
-pub mod Digits
 pub mod FaultLaws
 pub mod LineLaws
 pub mod NumberLaws

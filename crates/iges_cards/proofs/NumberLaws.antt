@@ -5,9 +5,9 @@ use Rattle.std.proofs.lemmas.List.{take-append-drop}
 use Rattle.std.proofs.lemmas.List.Folds.{length-prefix_len}
 use Rattle.std.proofs.Math.Seq.{take-append_seam, drop-append_seam}
 use Rattle.solid_base.specs.Digits.{is_digit, AreDigits, number_of}
-use Rattle.iges_cards.specs.Lines.{is_blank, AreBlanks}
-use Rattle.iges_cards.specs.Numbers.{IsNumber, behind_blanks, number_before, number_in}
-use Rattle.iges_cards.proofs.Digits.{number_of-below}
+use Rattle.solid_base.specs.Spelling.{is_blank, AreBlanks, behind_blanks}
+use Rattle.solid_base.proofs.Digits.{number_of_below}
+use Rattle.iges_cards.specs.Numbers.{IsNumber, number_before, number_in}
 use Rattle.iges_cards.proofs.CheckLaws.{both, turned, passed, test_not}
 
 pub all_test : (p : ℕ → Bool) (xs : List ℕ) → AllByRecursion (λ b. IsTrue (p b)) xs → list_all p xs ≡ true
@@ -100,5 +100,5 @@ pub number_below : (n : ℕ) (columns : List ℕ) → IsNumber n columns → len
 number_below n columns h short =
     let parts : length columns ≡ length h.before + (length h.digits + length h.behind) =
     ap length h.spelt ∙ length-append h.before (h.digits ++ h.behind) ∙ ap (λ k. length h.before + k) (length-append h.digits h.behind) in
-    let below = number_of-below 7 h.digits h.all_digits (omega arith) in
+    let below = number_of_below 7 h.digits h.all_digits (omega arith) in
     omega (arith, below, h.value)

@@ -7,7 +7,7 @@ use Rattle.iges_cards.specs.declared.faults.CardFault.TheVariants as fault
 use Rattle.iges_cards.specs.declared.sections.Counts.{Counts}
 use Rattle.iges_cards.specs.declared.sections.Section.{Section}
 use Rattle.iges_cards.specs.declared.sections.Section.TheVariants as section
-use Rattle.iges_cards.specs.Lines.{is_blank}
+use Rattle.solid_base.specs.Spelling.{is_blank}
 use Rattle.iges_cards.specs.Numbers.{number_in, is_same}
 use Rattle.iges_cards.specs.Sections.{letter_of, section_of, may_follow, count_of, lines_in}
 

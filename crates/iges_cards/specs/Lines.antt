@@ -1,15 +1,8 @@
 -- Lines of the fixed form (IGES 5.3, 2.2: lines of 80 columns). The line ends LF and CR LF, and blanks past column
 -- 80, are solidd's own.
-use Rattle.std.specs.Prelude.{◌≡◌, ◌≢◌, ◌⊎◌, ℕ, List, [], ◌∷◌, ◌++◌, Bool, false, cond, ◌==◌, ◌&&◌, ◌||◌, length, IsTrue}
+use Rattle.std.specs.Prelude.{◌≡◌, ◌≢◌, ◌⊎◌, ℕ, List, [], ◌∷◌, ◌++◌, Bool, false, cond, ◌==◌, ◌&&◌, length}
 use Rattle.std.specs.List.{AllByRecursion}
-
--- a blank is a space or a tab
-abbrev pub is_blank : ℕ → Bool
-is_blank b = (b == 32) || (b == 9)
-
--- blanks alone
-abbrev pub AreBlanks : List ℕ → Type 0
-AreBlanks text = AllByRecursion (λ b. IsTrue (is_blank b)) text
+use Rattle.solid_base.specs.Spelling.{AreBlanks}
 
 -- no byte is a line feed
 abbrev pub IsOneLine : List ℕ → Type 0

@@ -3,7 +3,7 @@
 use Rattle.std.specs.Prelude.{◌≡◌, ◌<◌, ℕ, List, ◌++◌, Bool, ◌&&◌, ◌==◌, cond, not, false, length, take, drop, Option, None, Some}
 use Rattle.std.specs.List.{prefix_len, list_all}
 use Rattle.solid_base.specs.Digits.{is_digit, AreDigits, number_of}
-use Rattle.iges_cards.specs.Lines.{is_blank, AreBlanks}
+use Rattle.solid_base.specs.Spelling.{is_blank, AreBlanks, behind_blanks}
 
 -- the columns hold this number: digits, and blanks before or behind them
 pub record IsNumber (n : ℕ) (columns : List ℕ) : Type 0 where
@@ -18,10 +18,6 @@ pub record IsNumber (n : ℕ) (columns : List ℕ) : Type 0 where
   pub value : number_of digits ≡ n
 
 -- ---- how a number is read from its columns
-
--- the columns behind the blanks in front
-abbrev pub behind_blanks : List ℕ → List ℕ
-behind_blanks columns = drop (prefix_len is_blank columns) columns
 
 -- the number that so many digits in front spell, where blanks alone stand behind them
 abbrev pub number_before : ℕ → List ℕ → Option ℕ

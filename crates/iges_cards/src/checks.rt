@@ -4,9 +4,9 @@ ghost use Rattle.iges_cards.specs.Numbers.{number_in, is_same};
 ghost use Rattle.iges_cards.specs.Sections.{AreFew};
 
 use crate::faults::CardFault;
-use crate::lines::are_blanks;
 use crate::numbers::number_in;
 use crate::sections::{Counts, Section};
+use solid_base::are_blanks;
 
 /// The 80 columns of a line.
 #[tactic(auto, unfolding(crate::specs::Checks::columns_in))]

@@ -1,13 +1,5 @@
 ghost use Rattle.std.specs.Prelude.{◌≡◌, ◌≢◌, ◌<◌, ◌++◌, ◌∷◌, [], length, take, slice_index, All, IfSome, IfNone};
-ghost use Rattle.std.specs.List.{list_all};
-ghost use Rattle.iges_cards.specs.Lines.{IsOneLine, IsFirstLine, is_blank, line_of};
-
-/// Whether there are blanks alone, spaces or tabs.
-pub fn are_blanks(text: &[u8]) -> bool
-    ensures { result ≡ list_all is_blank text.now }
-{
-    text.iter().all(|b| *b == b' ' || *b == b'\t')
-}
+ghost use Rattle.iges_cards.specs.Lines.{IsOneLine, IsFirstLine, line_of};
 
 fn place_of_feed(bytes: &[u8]) -> Option<usize>
     ensures found { IfSome result (λ n. (n < length bytes.now) × (slice_index bytes.now n ≡ 10)) }

@@ -1,6 +1,6 @@
 -- How numbers are spelt in fields: integer and real constants (IGES 5.3, 2.2.2.1 and 2.2.2.2).
 use Rattle.std.specs.Prelude.{◌≡◌, ℕ, ◌+◌, ◌<◌, ◌-◌, List, [], ◌∷◌, ◌++◌, Bool, true, cond, not, ◌&&◌, ◌||◌, ◌==◌, IsTrue, length, take, drop, Option, Some, None, ◌⊎◌, IsSome}
-use Rattle.std.specs.List.{prefix_len, suffix_len}
+use Rattle.std.specs.List.{prefix_len, suffix_len, AllByRecursion}
 use Rattle.solid_base.specs.Digits.{is_digit, AreDigits}
 
 -- ---- bytes
@@ -8,6 +8,10 @@ use Rattle.solid_base.specs.Digits.{is_digit, AreDigits}
 -- solidd's own: a blank is a space or a tab
 abbrev pub is_blank : ℕ → Bool
 is_blank b = (b == 32) || (b == 9)
+
+-- each byte is a blank
+abbrev pub AreBlanks : List ℕ → Type 0
+AreBlanks text = AllByRecursion (λ b. IsTrue (is_blank b)) text
 
 -- `+` or `-`
 abbrev pub is_sign : ℕ → Bool

@@ -1,14 +1,11 @@
-use Rattle.std.proofs.Common.{arith}
-use Rattle.iges_cards.proofs.Digits.{six_digits}
+use Rattle.std.proofs.Common.{arith, IsTrue}
+use Rattle.std.proofs.lemmas.List.Elements.{recursion_from_All}
+use Rattle.solid_base.specs.Digits.{is_digit}
+use Rattle.solid_base.proofs.Digits.{number_of_below}
 use Rattle.iges_cards.proofs.numbers.number.Goals as goal
 
-pub overflow_mul-number : goal.overflow_mul-number
-overflow_mul-number c =
-    let small = six_digits c.loop-b.b-index c.loop-b.number c.args.digits.now c.requires.digits c.requires.seven c.loop-b-test.true c.loop-b.invariant in
-    omega (arith, small)
-
-pub overflow_add-number : goal.overflow_add-number
-overflow_add-number c =
-    let small = six_digits c.loop-b.b-index c.loop-b.number c.args.digits.now c.requires.digits c.requires.seven c.loop-b-test.true c.loop-b.invariant in
-    let byte = c.type_inv.digits c.loop-b.b-index in
-    omega (arith, small, byte)
+pub returns : goal.returns
+returns c =
+    let digits = recursion_from_All (λ b. IsTrue (is_digit b)) c.args.digits.now c.requires.digits in
+    let below = number_of_below 7 c.args.digits.now digits c.requires.seven in
+    omega (arith, below)

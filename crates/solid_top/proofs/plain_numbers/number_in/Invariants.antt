@@ -1,6 +1,0 @@
-use Rattle.std.proofs.Common.{◌≡◌, ◌+◌, ◌^◌, min, take}
-use Rattle.solid_base.specs.Digits.{number_of}
-use Rattle.solid_top.proofs.plain_numbers.number_in.Given as goal
-
-abbrev pub invariant-loop-b : goal.invariant-loop-b
-invariant-loop-b l = l.number ≡ min (number_of (take l.b-index l.digits)) (10 ^ 18 + 1)
