@@ -2,7 +2,7 @@
 use Rattle.std.proofs.Common.{◌≡◌, ℕ, ◌+◌, ◌*◌, ◌-◌, ◌^◌, ◌<◌, ◌≤◌, List, length, arith, mul-le-mul, min}
 use Rattle.std.proofs.lemmas.Nat.{pow-add}
 use Rattle.solid_base.specs.Digits.{number_of, AreDigits}
-use Rattle.solid_base.proofs.Digits.{number_of_less, ten_positive}
+use Rattle.solid_base.proofs.Digits.{number_of_less, number_of_below, ten_positive}
 
 -- at most twelve decimals are less than a unit
 pub decimals-below : (ds : List ℕ) → AreDigits ds → length ds ≤ 12 → number_of ds * 10 ^ (12 - length ds) < 10 ^ 12
@@ -23,13 +23,5 @@ scaled-below ds m p past h short e f =
     rw f (omega (arith, grows, below))
 
 -- the number of at most nine digits, as code computes it
-pub nine-same : (ds : List ℕ) (m : ℕ) → AreDigits ds → length ds ≤ 9 → m ≡ min (number_of ds) (10 ^ 18 + 1) → (m ≡ number_of ds) × (m < 10 ^ 9)
-nine-same ds m h short e =
-    let below = number_of_less ds h in
-    let whole : 10 ^ (length ds + (9 - length ds)) ≡ 10 ^ length ds * 10 ^ (9 - length ds) = pow-add 10 (length ds) (9 - length ds) in
-    let nine : length ds + (9 - length ds) ≡ 9 = omega arith in
-    let some : 1 ≤ 10 ^ (9 - length ds) = ten_positive (9 - length ds) in
-    let grows : 10 ^ length ds * 1 ≤ 10 ^ length ds * 10 ^ (9 - length ds) = mul-le-mul (omega arith) some in
-    let most : 10 ^ length ds ≤ 10 ^ 9 = omega (arith, rw nine at whole, grows) in
-    let small : number_of ds < 10 ^ 9 = omega (arith, below, most) in
-    (omega (arith, small), omega (arith, small))
+pub nine-same : (ds : List ℕ) (m : ℕ) → AreDigits ds → length ds ≤ 9 → m ≡ min (number_of ds) 999999999 → (m ≡ number_of ds) × (m < 10 ^ 9)
+nine-same ds m h short e = let below = number_of_below 9 ds h short in (omega (arith, below), omega (arith, below))

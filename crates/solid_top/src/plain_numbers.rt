@@ -1,10 +1,12 @@
-ghost use Rattle.std.specs.Prelude.{◌≡◌, ◌≤◌, ◌<◌, ◌^◌, min, length, take, IsTrue, IfSome, MatchOption, All};
-ghost use Rattle.std.specs.List.{prefix_len, list_all};
-ghost use Rattle.solid_base.specs.Digits.{is_digit, number_of};
+ghost use Rattle.std.specs.Prelude.{◌≡◌, ◌≤◌, ◌<◌, IfSome, MatchOption};
+ghost use Rattle.std.specs.List.{list_all};
+ghost use Rattle.solid_base.specs.Digits.{is_digit};
 ghost use Rattle.solid_base.specs.Range.{far, IsWithin};
 ghost use Rattle.solid_top.specs.PlainNumbers.{HasDigits, magnitude, signed};
 ghost use Rattle.solid_top.specs.PlainReading.{are_decimals, behind_whole, behind_sign, parts_at, plain_at, number_of_parts};
 ghost use Rattle.solid_top.specs.Reading.{Gives};
+
+use solid_base::{digit_count, number_up_to};
 
 /// Whether a number has to have a point.
 #[derive(Clone, Copy, Debug, PartialEq, Eq)]
@@ -29,15 +31,6 @@ const UNIT: u64 = 1_000_000_000_000;
 
 /// The greatest magnitude, in units.
 const FAR_UNITS: u64 = 100_000;
-
-fn digits_in_front(text: &[u8]) -> usize
-    ensures within { result ≤ length text.now }
-    ensures value { result ≡ prefix_len is_digit text.now }
-{
-    text.iter()
-        .take_while(|b| **b >= b'0' && **b <= b'9')
-        .count()
-}
 
 pub fn are_digits(text: &[u8]) -> bool
     ensures { result ≡ list_all is_digit text.now }
@@ -73,7 +66,7 @@ fn behind_whole<'a>(minus: bool, whole: &'a [u8], rest: &'a [u8]) -> Option<Part
 fn behind_sign(minus: bool, text: &[u8]) -> Option<Parts<'_>>
     ensures { Gives number_of_parts result (behind_sign minus text.now) }
 {
-    let (whole, rest) = text.split_at(digits_in_front(text));
+    let (whole, rest) = text.split_at(digit_count(text));
     behind_whole(minus, whole, rest)
 }
 
@@ -88,28 +81,17 @@ fn parts_of(text: &[u8]) -> Option<Parts<'_>>
     }
 }
 
-/// The number that digits spell, or `PAST` where it is greater.
-pub fn number_in(digits: &[u8]) -> u64
-    ensures { result ≡ min (number_of digits.now) PAST }
-{
-    let mut number: u64 = 0;
-    for b in digits {
-        number = (number * 10 + u64::from(b.saturating_sub(b'0'))).min(PAST);
-    }
-    number
-}
-
 /// The magnitude in steps, where it is at most 100,000 units.
 fn magnitude(parts: &Parts<'_>) -> Option<u64>
     requires { HasDigits (number_of_parts parts.now) }
     ensures { MatchOption result (far < magnitude (number_of_parts parts.now)) (λ m. (m ≡ magnitude (number_of_parts parts.now)) × (m ≤ far)) }
 {
-    let whole = number_in(parts.whole);
+    let whole = number_up_to(parts.whole, PAST);
     if whole > FAR_UNITS {
         return None;
     }
     let scale = 10u64.pow(12 - parts.decimals.len() as u32);
-    let steps = whole * UNIT + number_in(parts.decimals) * scale;
+    let steps = whole * UNIT + number_up_to(parts.decimals, PAST) * scale;
     if steps > FAR_UNITS * UNIT {
         None
     } else {

@@ -3,10 +3,10 @@ ghost use Rattle.solid_base.specs.Range.{far, IsWithin, IsPointWithin};
 ghost use Rattle.solid_top.specs.FormReading.{delimited_at, position_at, entity_number_at, point_at};
 ghost use Rattle.solid_top.specs.Reading.{Gives};
 
-use crate::plain_numbers::{DecimalPoint, are_digits, number_in, plain};
+use crate::plain_numbers::{DecimalPoint, are_digits, plain};
 use crate::questions::PointQuestion;
 use crate::scan::{cut, text};
-use solid_base::Vec3;
+use solid_base::{Vec3, number_up_to};
 
 /// A plain number in front, and the bytes behind the byte that ends it.
 #[tactic(auto, unfolding(crate::specs::FormReading::delimited_at))]
@@ -39,7 +39,7 @@ fn entity_number(text: &[u8]) -> Option<u32>
     if !are_digits(text) || text.is_empty() || text.len() > 9 {
         return None;
     }
-    let number = number_in(text);
+    let number = number_up_to(text, 999_999_999);
     if number == 0 {
         None
     } else {

@@ -6,12 +6,12 @@ pub overflow_mul-steps-2 : goal.overflow_mul-steps-2
 overflow_mul-steps-2 c =
     let ds = c.args.parts.now.decimals.now in
     let p : c.pow-scale.result ≡ 10 ^ (12 - length ds) = search rules in
-    let b = scaled-below ds c.number_in.result c.pow-scale.result (10 ^ 18 + 1) c.requires.decimals c.requires.twelve c.number_in.ensures p in
+    let b = scaled-below ds c.number_up_to.result c.pow-scale.result (10 ^ 18 + 1) c.requires.decimals c.requires.twelve c.number_up_to.ensures p in
     omega (arith, b)
 
 pub overflow_add-steps : goal.overflow_add-steps
 overflow_add-steps c =
     let ds = c.args.parts.now.decimals.now in
     let p : c.pow-scale.result ≡ 10 ^ (12 - length ds) = search rules in
-    let b = scaled-below ds c.number_in.result c.pow-scale.result (10 ^ 18 + 1) c.requires.decimals c.requires.twelve c.number_in.ensures p in
+    let b = scaled-below ds c.number_up_to.result c.pow-scale.result (10 ^ 18 + 1) c.requires.decimals c.requires.twelve c.number_up_to.ensures p in
     omega (arith, b)
