@@ -1,8 +1,7 @@
-ghost use Rattle.std.specs.Prelude.{◌≡◌, ◌++◌, codes, decimal, IfOk, OnOk};
+ghost use Rattle.std.specs.Prelude.{◌≡◌, IfOk};
 ghost use Rattle.iges_cards.specs.Words.{IsOfText, fault_number, fault_words};
 
-use itoa::Buffer;
-use solid_base::Bytes;
+use solid_base::{Bytes, push_decimal, word, word_and_number};
 use std::alloc::{AllocError, Global};
 use thiserror::Error;
 
@@ -53,29 +52,6 @@ impl From<AllocError> for CardFault {
     fn from(e: AllocError) -> CardFault {
         CardFault::Memory(e)
     }
-}
-
-fn word(alloc: Global, text: &[u8]) -> Result<Bytes, AllocError>
-    ensures { IfOk result (λ words. words ≡ text.now) }
-{
-    let mut words = Bytes::new(alloc);
-    words.extend_from_slice(text)?;
-    Ok(words)
-}
-
-fn push_decimal(words: &mut Bytes, number: u32) -> Result<(), AllocError>
-    ensures { OnOk result (words.new ≡ words.old ++ decimal number) }
-{
-    let mut buffer = Buffer::new();
-    words.extend_from_slice(buffer.format(number).as_bytes())
-}
-
-fn word_and_number(alloc: Global, text: &[u8], number: u32) -> Result<Bytes, AllocError>
-    ensures { IfOk result (λ words. words ≡ text.now ++ decimal number) }
-{
-    let mut words = word(alloc, text)?;
-    push_decimal(&mut words, number)?;
-    Ok(words)
 }
 
 impl CardFault {

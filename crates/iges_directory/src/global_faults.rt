@@ -1,8 +1,7 @@
 ghost use Rattle.std.specs.Prelude.{◌≡◌, IfOk};
 ghost use Rattle.iges_directory.specs.GlobalFaults.{IsOfText, fault_number, fault_words};
 
-use itoa::Buffer;
-use solid_base::Bytes;
+use solid_base::{Bytes, word_and_number};
 use std::alloc::{AllocError, Global};
 use thiserror::Error;
 
@@ -44,15 +43,9 @@ impl GlobalFault {
         requires { IsOfText self.now }
         ensures { IfOk result (λ words. words ≡ fault_words self.now) }
     {
-        let mut words = Bytes::new(alloc);
         match self {
-            GlobalFault::Memory(_) => Ok(words),
-            GlobalFault::BadGlobal(index) => {
-                let mut buffer = Buffer::new();
-                words.extend_from_slice(b"BadGlobal ")?;
-                words.extend_from_slice(buffer.format(*index).as_bytes())?;
-                Ok(words)
-            }
+            GlobalFault::Memory(_) => Ok(Bytes::new(alloc)),
+            GlobalFault::BadGlobal(index) => word_and_number(alloc, b"BadGlobal ", *index),
         }
     }
 }

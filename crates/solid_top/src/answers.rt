@@ -13,17 +13,8 @@ use crate::points::point_line;
 use crate::questions::PointQuestion;
 use crate::spheres::Sphere;
 use csg_primitives::sphere_point;
-use itoa::Buffer;
-use solid_base::{Bytes, Class};
+use solid_base::{Bytes, Class, push_decimal};
 use std::alloc::AllocError;
-
-/// Adds the decimal digits of a number.
-pub fn push_decimal(out: &mut Bytes, number: u32) -> Result<(), AllocError>
-    ensures { OnOk result (out.new ≡ out.old ++ decimal number) }
-{
-    let mut buffer = Buffer::new();
-    out.extend_from_slice(buffer.format(number).as_bytes())
-}
 
 /// The row with a number.
 fn row_of(spheres: &[Sphere], number: u32) -> Option<&Sphere>

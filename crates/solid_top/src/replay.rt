@@ -9,11 +9,11 @@ ghost use Rattle.solid_top.specs.Output.{reply_text, session_text, output_text};
 ghost use Rattle.solid_top.specs.Replay.{IsReplayed, IsNoFirstForm};
 ghost use Rattle.solid_top.specs.TopFaults.{refused_text};
 
-use crate::answers::{push_decimal, push_replies};
+use crate::answers::push_replies;
 use crate::faults::TopFault;
 use crate::file::read_file;
 use crate::statuses::Status;
-use solid_base::{Bytes, Ledger};
+use solid_base::{Bytes, Ledger, push_decimal};
 use std::alloc::{AllocError, Global};
 
 /// What a run answers: its status, and the text to be written.
