@@ -1,6 +1,7 @@
 -- A file of the grammar is read.
 use Rattle.std.proofs.Common.{◌≡◌, ℕ, suc, ◌+◌, ◌<◌, ◌⊎◌, inl, inr, List, [], ◌∷◌, ◌++◌, true, false, length, drop, Option, Some, None, Ok, refl, sym, ap, subst, ◌∙◌, arith, append_assoc, append-nil, length-append, zero-add}
 use Rattle.std.specs.List.{concat}
+use Rattle.solid_base.specs.Series.{Spells}
 use Rattle.iges_cards.specs.declared.reader.Cards.{Cards}
 use Rattle.iges_cards.specs.declared.sections.Counts.{Counts}
 use Rattle.iges_cards.specs.declared.sections.Section.{Section}
@@ -11,7 +12,6 @@ use Rattle.iges_cards.specs.Lines.{IsOneLine, IsLine, line_texts, line_of}
 use Rattle.iges_cards.specs.Numbers.{IsNumber}
 use Rattle.iges_cards.specs.Reading.{keep, no_cards, read_from, cards_in}
 use Rattle.iges_cards.specs.Sections.{may_follow, width_of, is_terminate, count_of, one_more, no_lines}
-use Rattle.iges_cards.specs.Series.{Spells}
 use Rattle.iges_cards.proofs.CardLaws.{card_again, terminated_again}
 use Rattle.iges_cards.proofs.LineLaws.{line_again, line_open, texts_again, texts_last}
 use Rattle.iges_cards.proofs.Steps.{reads_on, reads_end}

@@ -4,6 +4,5 @@ pub mod CheckLaws
 pub mod FaultLaws
 pub mod LineLaws
 pub mod NumberLaws
-pub mod SeriesLaws
 pub mod Steps
 pub mod TakesLaws

@@ -1,5 +1,5 @@
 -- Numbers in columns: what is spelt is read, and what is read is spelt.
-use Rattle.std.proofs.Common.{◌≡◌, ℕ, ◌+◌, ◌<◌, ◌≤◌, List, [], ◌∷◌, ◌++◌, Bool, true, false, cond, not, ◌&&◌, ◌==◌, length, take, drop, Some, refl, sym, ap, ◌∙◌, arith, length-append, one-add, IsTrue, suc}
+use Rattle.std.proofs.Common.{◌≡◌, ℕ, ◌+◌, ◌<◌, ◌≤◌, List, [], ◌∷◌, ◌++◌, Bool, true, false, not, ◌&&◌, ◌==◌, length, take, drop, Some, refl, sym, ap, ◌∙◌, arith, length-append, one-add, IsTrue, suc}
 use Rattle.std.specs.List.{AllByRecursion, prefix_len, list_all}
 use Rattle.std.proofs.lemmas.List.{take-append-drop}
 use Rattle.std.proofs.lemmas.List.Folds.{length-prefix_len}
@@ -7,6 +7,7 @@ use Rattle.std.proofs.Math.Seq.{take-append_seam, drop-append_seam}
 use Rattle.solid_base.specs.Digits.{is_digit, AreDigits, number_of}
 use Rattle.solid_base.specs.Spelling.{is_blank, AreBlanks, behind_blanks}
 use Rattle.solid_base.proofs.Digits.{number_of_below}
+use Rattle.solid_base.proofs.Prefix.{front_passes}
 use Rattle.iges_cards.specs.Numbers.{IsNumber, number_before, number_in}
 use Rattle.iges_cards.proofs.CheckLaws.{both, turned, passed, test_not}
 
@@ -19,15 +20,6 @@ test_all p [] h = tt
 test_all p (x ∷ xs) h = let (a, b) = both (p x) (list_all p xs) h in (a, test_all p xs b)
 
 -- ---- bytes in front that pass a test
-
-front_case : (p : ℕ → Bool) (x : ℕ) (xs : List ℕ) (v : Bool) → p x ≡ v → AllByRecursion (λ b. IsTrue (p b)) (take (prefix_len p xs) xs)
-    → AllByRecursion (λ b. IsTrue (p b)) (take (cond v (1 + prefix_len p xs) 0) (x ∷ xs))
-front_case p x xs true e h = rw one-add (e, h)
-front_case p x xs false e h = tt
-
-front_passes : (p : ℕ → Bool) (xs : List ℕ) → AllByRecursion (λ b. IsTrue (p b)) (take (prefix_len p xs) xs)
-front_passes p [] = tt
-front_passes p (x ∷ xs) = front_case p x xs (p x) refl (front_passes p xs)
 
 abbrev Stops : (ℕ → Bool) → List ℕ → Type 0
 Stops p [] = Unit {0}

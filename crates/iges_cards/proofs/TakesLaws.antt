@@ -1,6 +1,7 @@
 -- What is read is a file of the grammar.
 use Rattle.std.proofs.Common.{◌≡◌, ℕ, ◌+◌, ◌<◌, ◌⊎◌, inl, inr, List, [], ◌∷◌, ◌++◌, Bool, true, false, cond, length, take, drop, Option, Some, None, Ok, refl, sym, ap, subst, ◌∙◌, arith, append_assoc, append-nil, length-append}
 use Rattle.std.specs.List.{concat}
+use Rattle.solid_base.proofs.SeriesLaws.{Spells-more, none_spelt}
 use Rattle.iges_cards.specs.declared.reader.Cards.{Cards}
 use Rattle.iges_cards.specs.declared.sections.Counts.{Counts}
 use Rattle.iges_cards.specs.declared.sections.Section.{Section}
@@ -13,7 +14,6 @@ use Rattle.iges_cards.specs.Reading.{keep, no_cards, read_from, cards_in}
 use Rattle.iges_cards.specs.Sections.{may_follow, width_of, is_terminate, count_of, one_more, no_lines}
 use Rattle.iges_cards.proofs.CardLaws.{IsNext, card_takes, terminated_takes}
 use Rattle.iges_cards.proofs.LineLaws.{AreTexts, are_texts, texts_joined, line_takes, line_open}
-use Rattle.iges_cards.proofs.SeriesLaws.{Spells-more, none_spelt}
 use Rattle.iges_cards.proofs.CheckLaws.{both_gave}
 
 -- ---- what was read of a file

@@ -2,6 +2,7 @@
 -- terminate line. Directory and parameter lines may be absent, and parameter lines stand behind directory lines alone.
 use Rattle.std.specs.Prelude.{◌≡◌, ◌<◌, ◌⊎◌, ℕ, ◌+◌, List, [], ◌∷◌, ◌++◌, length, take, drop, slice_index}
 use Rattle.std.specs.List.{concat}
+use Rattle.solid_base.specs.Series.{Spells}
 use Rattle.iges_cards.specs.declared.reader.Cards.{Cards}
 use Rattle.iges_cards.specs.declared.sections.Counts.{Counts}
 use Rattle.iges_cards.specs.declared.sections.Section.{Section}
@@ -9,7 +10,6 @@ use Rattle.iges_cards.specs.declared.sections.Section.TheVariants as section
 use Rattle.iges_cards.specs.Lines.{IsOneLine, IsLine, HasColumns}
 use Rattle.iges_cards.specs.Numbers.{IsNumber}
 use Rattle.iges_cards.specs.Sections.{letter_of}
-use Rattle.iges_cards.specs.Series.{Spells}
 
 -- the columns of a line: the section letter in column 73, the line's number in its section in columns 74 to 80
 pub record IsNumbered (named : Section) (count : ℕ) (columns line : List ℕ) : Type 0 where

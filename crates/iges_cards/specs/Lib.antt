@@ -4,5 +4,4 @@ pub mod Lines
 pub mod Numbers
 pub mod Reading
 pub mod Sections
-pub mod Series
 pub mod Words

@@ -6,10 +6,10 @@ use Rattle.std.proofs.lemmas.List.Folds.{length-prefix_len}
 use Rattle.std.proofs.lemmas.Bool.Decides.{nat_tests}
 use Rattle.std.proofs.Math.Seq.{take-append_seam, drop-append_seam}
 use Rattle.solid_base.specs.Digits.{is_digit, AreDigits, number_of}
-use Rattle.solid_base.specs.Spelling.{is_blank, Sign, NoSign, Plus, Minus, sign_text, sign_of, behind_sign, behind_blanks, digit_count}
+use Rattle.solid_base.specs.Spelling.{is_blank, AreBlanks, Sign, NoSign, Plus, Minus, sign_text, sign_of, behind_sign, behind_blanks, digit_count}
 use Rattle.solid_base.proofs.Numerals.{sign_cut}
 use Rattle.solid_base.proofs.Prefix.{both, prefix_upto, rest_upto, front_passes}
-use Rattle.iges_directory.specs.ColumnNumbers.{AreBlanks, IsGiven, IsNumber, signed, number_before, number_at, number_in}
+use Rattle.iges_directory.specs.ColumnNumbers.{IsGiven, IsNumber, signed, number_before, number_at, number_in}
 
 pub all_test : (p : ℕ → Bool) (xs : List ℕ) → AllByRecursion (λ b. IsTrue (p b)) xs → list_all p xs ≡ true
 all_test p [] h = refl

@@ -1,12 +1,12 @@
 -- Entries: what is spelt is read, and what is read is spelt.
 use Rattle.std.proofs.Common.{◌≡◌, ◌≢◌, ◌⊎◌, inl, inr, ℕ, ◌+◌, ◌-◌, ◌≤◌, List, Bool, true, false, cond, ◌&&◌, ◌||◌, ◌==◌, nat_le, nat_lt, Option, Some, None, Result, Ok, Err, refl, sym, ap, subst, ◌∙◌, arith}
 use Rattle.std.specs.List.{list_all}
-use Rattle.solid_base.specs.Spelling.{is_blank}
+use Rattle.solid_base.specs.Spelling.{is_blank, AreBlanks}
 use Rattle.solid_base.proofs.Prefix.{both}
 use Rattle.iges_directory.specs.declared.directory_faults.DirFault.{DirFault}
 use Rattle.iges_directory.specs.declared.directory_faults.DirFault.TheVariants as fault
 use Rattle.iges_directory.specs.declared.pairs.Pair.{Pair}
-use Rattle.iges_directory.specs.ColumnNumbers.{AreBlanks, number_in}
+use Rattle.iges_directory.specs.ColumnNumbers.{number_in}
 use Rattle.iges_directory.specs.Pairs.{field, attributes, null_pair, HoldsWithin, IsOfType, IsEntity, IsPair}
 use Rattle.iges_directory.specs.DirectoryReading.{◌>>=◌, within, type_in, behind_lines, behind_first, entity_in, pair_in}
 use Rattle.iges_directory.proofs.NumberForms.{all_test, test_all, number_again, number_takes}

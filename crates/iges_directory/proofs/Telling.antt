@@ -3,10 +3,10 @@ use Rattle.std.proofs.Common.{◌≡◌, ◌≢◌, ℕ, List, [], ◌∷◌, �
 use Rattle.std.specs.List.{prefix_len}
 use Rattle.std.proofs.lemmas.List.{take-append-drop}
 use Rattle.std.proofs.lemmas.Bool.Decides.{nat_tests}
-use Rattle.solid_base.specs.Spelling.{is_blank, behind_blanks}
+use Rattle.solid_base.specs.Spelling.{is_blank, AreBlanks, behind_blanks}
 use Rattle.solid_base.proofs.Prefix.{front_passes, both}
 use Rattle.iges_fields.specs.Delimiters.{is_lawful, AreDelimiters}
-use Rattle.iges_fields.specs.Grammar.{AreBlanks, delimiter}
+use Rattle.iges_fields.specs.Grammar.{delimiter}
 use Rattle.iges_fields.proofs.Numerics.{all_append, lawful_parts}
 use Rattle.iges_fields.proofs.Ends.{blanks_skipped}
 use Rattle.iges_directory.specs.Global.{SpellsDelimiter, TellsDelimiter, IsFirst, IsSecond}

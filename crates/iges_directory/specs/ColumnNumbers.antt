@@ -1,13 +1,9 @@
 -- Numbers in the fields of a directory entry (IGES 5.3, 2.2.4.4: integers in eight columns). That blanks may stand on
 -- both sides, and a sign in front, is solidd's own.
-use Rattle.std.specs.Prelude.{◌≡◌, ◌<◌, ◌⊎◌, ℕ, List, ◌++◌, ◌&&◌, ◌==◌, cond, not, length, take, drop, Option, None, Some, IsTrue}
-use Rattle.std.specs.List.{list_all, AllByRecursion}
+use Rattle.std.specs.Prelude.{◌≡◌, ◌<◌, ◌⊎◌, ℕ, List, ◌++◌, ◌&&◌, ◌==◌, cond, not, length, take, drop, Option, None, Some}
+use Rattle.std.specs.List.{list_all}
 use Rattle.solid_base.specs.Digits.{AreDigits, number_of}
-use Rattle.solid_base.specs.Spelling.{is_blank, Sign, NoSign, Plus, Minus, sign_text, behind_blanks, sign_of, behind_sign, digit_count}
-
--- blanks alone
-abbrev pub AreBlanks : List ℕ → Type 0
-AreBlanks columns = AllByRecursion (λ b. IsTrue (is_blank b)) columns
+use Rattle.solid_base.specs.Spelling.{is_blank, AreBlanks, Sign, NoSign, Plus, Minus, sign_text, behind_blanks, sign_of, behind_sign, digit_count}
 
 -- the columns hold a number that isn't left out: a sign or none and digits, and blanks before or behind them; behind a
 -- minus stands 0 alone

@@ -1,8 +1,9 @@
 -- The global section (IGES 5.3, 2.2.4.3): the delimiters, and the parameters behind them.
 use Rattle.std.specs.Prelude.{◌≡◌, ◌≢◌, ◌⊎◌, ℕ, ◌+◌, List, [], ◌∷◌, ◌++◌, Bool, false, IsTrue, length}
+use Rattle.solid_base.specs.Spelling.{AreBlanks}
 use Rattle.solid_base.specs.declared.entities.Token.{Token}
 use Rattle.iges_fields.specs.Delimiters.{is_lawful}
-use Rattle.iges_fields.specs.Grammar.{AreBlanks, delimiter, IsField}
+use Rattle.iges_fields.specs.Grammar.{delimiter, IsField}
 use Rattle.iges_fields.specs.Layout.{field_of, is_last}
 use Rattle.iges_fields.specs.Reading.{Reading}
 use Rattle.iges_directory.specs.declared.global_faults.GlobalFault.{GlobalFault}

@@ -1,8 +1,9 @@
 -- Entries of the directory (IGES 5.3, 2.2.4.4: two lines of ten fields of eight columns, numbered from 1 to 20). Which
 -- fields are read and kept, and the ranges, are solidd's own.
 use Rattle.std.specs.Prelude.{◌≡◌, ◌≢◌, ◌≤◌, ◌⊎◌, ℕ, ◌+◌, ◌-◌, ◌*◌, List, [], ◌∷◌, ◌++◌, length, take, drop, replicate}
+use Rattle.solid_base.specs.Spelling.{AreBlanks}
 use Rattle.iges_directory.specs.declared.pairs.Pair.{Pair}
-use Rattle.iges_directory.specs.ColumnNumbers.{AreBlanks, IsNumber}
+use Rattle.iges_directory.specs.ColumnNumbers.{IsNumber}
 
 -- the columns of fields of one line, from the one to the other; they are counted from 1
 abbrev pub fields : ℕ → ℕ → List ℕ → List ℕ

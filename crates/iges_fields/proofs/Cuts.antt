@@ -5,7 +5,7 @@ use Rattle.std.proofs.lemmas.List.{take-append-drop, drop-drop}
 use Rattle.std.proofs.lemmas.List.Folds.{length-prefix_len}
 use Rattle.std.proofs.lemmas.Bool.Decides.{nat_tests}
 use Rattle.solid_base.specs.Digits.{is_digit, number_of}
-use Rattle.solid_base.specs.Spelling.{is_blank, behind_blanks, before_blanks, digit_count, behind_digits, class_of, Spelling}
+use Rattle.solid_base.specs.Spelling.{is_blank, AreBlanks, behind_blanks, before_blanks, digit_count, behind_digits, class_of, Spelling}
 use Rattle.solid_base.specs.Spelling as spelling
 use Rattle.solid_base.proofs.Prefix.{both, front_passes}
 use Rattle.solid_base.proofs.Numerals.{empty_is_spelt, whole_is_spelt, real_is_spelt}
@@ -13,7 +13,7 @@ use Rattle.iges_fields.specs.declared.kinds.FieldKind.{FieldKind}
 use Rattle.iges_fields.specs.declared.kinds.FieldKind.TheVariants as kind
 use Rattle.iges_fields.specs.declared.faults.FieldFault.{FieldFault}
 use Rattle.iges_fields.specs.declared.faults.FieldFault.TheVariants as fault
-use Rattle.iges_fields.specs.Grammar.{AreBlanks, IsSpelling, delimiter, IsField, RunsPast, IsOpen, IsNoField}
+use Rattle.iges_fields.specs.Grammar.{IsSpelling, delimiter, IsField, RunsPast, IsOpen, IsNoField}
 use Rattle.iges_fields.specs.Reading.{Reading, delimited, text_at, bytes_before, kind_of, of_kind, word_at, is_counted, content_at, field_at}
 use Rattle.iges_fields.specs.Delimiters.{AreDelimiters}
 use Rattle.iges_fields.proofs.Ends.{trimmed}

@@ -4,10 +4,9 @@ use Rattle.std.specs.List.{prefix_len, suffix_len}
 use Rattle.std.proofs.lemmas.List.{reverse-append, reverse-reverse, length-reverse, take-append-drop}
 use Rattle.std.proofs.Math.Seq.{take-append_seam}
 use Rattle.solid_base.specs.Digits.{is_digit}
-use Rattle.solid_base.specs.Spelling.{is_blank, behind_blanks, before_blanks, digit_count, behind_digits}
+use Rattle.solid_base.specs.Spelling.{is_blank, AreBlanks, behind_blanks, before_blanks, digit_count, behind_digits}
 use Rattle.solid_base.proofs.Prefix.{AllPass, prefix_upto, rest_upto, front_passes}
 use Rattle.iges_fields.specs.Delimiters.{is_numeric, is_lawful}
-use Rattle.iges_fields.specs.Grammar.{AreBlanks}
 use Rattle.iges_fields.specs.Reading.{is_delimiter, bytes_before, is_counted}
 use Rattle.iges_fields.proofs.Numerics.{all_append, numeric_no_blank, blank_no_digit, at_byte, lawful_parts}
 

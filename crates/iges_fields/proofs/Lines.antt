@@ -1,41 +1,26 @@
 -- Tokens in lines: what is laid step by step, cut into lines, and read back.
-use Rattle.std.proofs.Common.{◌≡◌, ℕ, zero, suc, ◌+◌, ◌-◌, ◌*◌, ◌%◌, ◌^◌, ◌<◌, ◌≤◌, List, [], ◌∷◌, ◌++◌, length, take, drop, get_or, replicate, decimal, Bool, true, false, ◌==◌, refl, sym, ap, subst, ◌∙◌, arith, append_assoc, append-nil, length-append, length-drop, length-take-le, min, add-one, Ok, Err, Result, IfOk}
+use Rattle.std.proofs.Common.{◌≡◌, ℕ, zero, suc, ◌+◌, ◌-◌, ◌<◌, ◌≤◌, List, [], ◌∷◌, ◌++◌, length, take, drop, get_or, replicate, decimal, Bool, true, false, ◌==◌, refl, sym, ap, subst, ◌∙◌, arith, append_assoc, append-nil, length-append, length-drop, length-take-le, min, add-one, Ok, Err, Result, IfOk}
 use Rattle.std.specs.declared.alloc.AllocError.{AllocError}
 use Rattle.std.specs.List.{AllByRecursion, concat}
-use Rattle.std.proofs.lemmas.Fmt.{decimal_by_steps, decimal_nonempty}
+use Rattle.std.proofs.lemmas.Fmt.{decimal_nonempty}
 use Rattle.std.proofs.lemmas.List.{length-replicate, take-append-drop}
-use Rattle.std.proofs.lemmas.List.Sums.{fold_push}
 use Rattle.std.proofs.lemmas.List.Folds.{concat-append}
 use Rattle.std.proofs.Math.Seq.{drop-cons}
 use Rattle.std.proofs.Math.ListN.{drop_of_length-le}
-use Rattle.std.proofs.lemmas.Bool.Decides.{nat_tests}
-use Rattle.solid_base.specs.Digits.{is_digit, AreDigits, number_of}
+use Rattle.solid_base.specs.Spelling.{AreBlanks}
 use Rattle.solid_base.specs.declared.entities.Token.{Token}
 use Rattle.solid_base.specs.declared.entities.Token.TheVariants as token
+use Rattle.solid_base.proofs.DecimalTexts.{decimal_digits, decimal_value}
 use Rattle.iges_fields.specs.Delimiters.{AreDelimiters}
-use Rattle.iges_fields.specs.Grammar.{AreBlanks, IsSpelling, delimiter}
+use Rattle.iges_fields.specs.Grammar.{IsSpelling, delimiter}
 use Rattle.iges_fields.specs.Reading.{field_at}
 use Rattle.iges_fields.specs.Layout.{kind_of_token, content_of_token, spelling_of_token, IsSpelt, AreSpelt, IsHeld, AreHeld, field_of, is_last, Reads, piece, gap, placed, laid, AreLines}
-use Rattle.iges_fields.proofs.Numerics.{all_append}
 use Rattle.iges_fields.proofs.Written.{spelt_is_read}
 
 -- ---- a laid token is read back
 blanks : (n : ℕ) → AreBlanks (replicate n 32)
 blanks zero = tt
 blanks (suc n) = (refl, blanks n)
-
-digit_is : (n : ℕ) → n < 10 → is_digit (48 + n) ≡ true
-digit_is n small = grind (arith, nat_tests)
-
-decimal_digits : (n : ℕ) → n < 2 ^ 64 → AreDigits (decimal n)
-decimal_digits =
-    decimal_by_steps (λ n ds. AreDigits ds) (λ n small. (digit_is n small, tt))
-    (λ n ds large h. all_append is_digit ds ((48 + n % 10) ∷ []) h (digit_is (n % 10) (omega arith), tt))
-
-decimal_value : (n : ℕ) → n < 2 ^ 64 → number_of (decimal n) ≡ n
-decimal_value =
-    decimal_by_steps (λ n ds. number_of ds ≡ n) (λ n small. omega arith)
-    (λ n ds large h. fold_push (λ a x. a * 10 + (x - 48)) 0 ds (48 + n % 10) ∙ rw h (omega arith))
 
 spells : (t : Token) → IsSpelt t → IsHeld t → IsSpelling (kind_of_token t) (content_of_token t) (spelling_of_token t)
 spells token.Empty h s = (refl, refl)

@@ -3,14 +3,14 @@ use Rattle.std.proofs.Common.{◌≡◌, ◌≢◌, ℕ, ◌+◌, ◌<◌, List,
 use Rattle.std.specs.List.{prefix_len}
 use Rattle.std.proofs.Math.Seq.{take-append_seam, drop-append_seam, drop-append-add}
 use Rattle.solid_base.specs.Digits.{is_digit, AreDigits, number_of}
-use Rattle.solid_base.specs.Spelling.{is_blank, behind_blanks, before_blanks, digit_count, behind_digits, class_of}
+use Rattle.solid_base.specs.Spelling.{is_blank, AreBlanks, behind_blanks, before_blanks, digit_count, behind_digits, class_of}
 use Rattle.solid_base.proofs.Prefix.{AllPass, prefix_upto, front_upto, rest_upto}
 use Rattle.solid_base.proofs.Numerals.{whole_is_read, real_is_read}
 use Rattle.iges_fields.specs.declared.kinds.FieldKind.{FieldKind}
 use Rattle.iges_fields.specs.declared.kinds.FieldKind.TheVariants as kind
 use Rattle.iges_fields.specs.declared.faults.FieldFault.TheVariants as fault
 use Rattle.iges_fields.specs.Delimiters.{is_numeric, AreDelimiters}
-use Rattle.iges_fields.specs.Grammar.{AreBlanks, IsText, IsSpelling, delimiter, IsField, RunsPast, IsOpen}
+use Rattle.iges_fields.specs.Grammar.{IsText, IsSpelling, delimiter, IsField, RunsPast, IsOpen}
 use Rattle.iges_fields.specs.Reading.{Reading, delimited, text_at, is_delimiter, bytes_before, kind_of, of_kind, word_at, is_counted, content_at, field_at}
 use Rattle.iges_fields.proofs.Numerics.{all_append, all_weaker, digit_no_blank, numeric_no_blank, lawful_parts, no_delimiter, comma_delimits, semi_delimits, whole_numeric, real_numeric}
 use Rattle.iges_fields.proofs.Counts.{content_counted}

@@ -1,15 +1,10 @@
 -- What a field is, apart from how it is found (IGES 5.3, 2.2.2: constants of the free format; 2.2.3: delimiters).
-use Rattle.std.specs.Prelude.{◌≡◌, ℕ, ◌<◌, List, [], ◌∷◌, ◌++◌, Bool, cond, IsTrue, length}
-use Rattle.std.specs.List.{AllByRecursion}
+use Rattle.std.specs.Prelude.{◌≡◌, ℕ, ◌<◌, List, [], ◌∷◌, ◌++◌, Bool, cond, length}
 use Rattle.solid_base.specs.Digits.{AreDigits, number_of}
-use Rattle.solid_base.specs.Spelling.{is_blank, IsWhole, IsReal}
+use Rattle.solid_base.specs.Spelling.{AreBlanks, IsWhole, IsReal}
 use Rattle.iges_fields.specs.declared.kinds.FieldKind.{FieldKind}
 use Rattle.iges_fields.specs.declared.kinds.FieldKind.TheVariants as kind
 use Rattle.iges_fields.specs.Reading.{Reading}
-
--- each byte is a space or a tab
-abbrev pub AreBlanks : List ℕ → Type 0
-AreBlanks text = AllByRecursion (λ b. IsTrue (is_blank b)) text
 
 -- a text (IGES 5.3, 2.2.2.3: a string constant): the digits of its count, H, and that many bytes, whatever they are
 pub record IsText (content spelt : List ℕ) : Type 0 where

@@ -1,6 +1,9 @@
 pub mod Ring
 pub mod Prefix
+pub mod Pairs
 pub mod Digits
 pub mod Numerals
 pub mod Decimals
 pub mod Spellings
+pub mod DecimalTexts
+pub mod SeriesLaws

@@ -3,6 +3,8 @@ use Rattle.std.proofs.Common.{◌≡◌, ℕ, ◌+◌, ◌<◌, List, [], ◌∷
 use Rattle.std.specs.List.{flat_map}
 use Rattle.std.proofs.lemmas.Fmt.{decimal_digit}
 use Rattle.solid_base.specs.declared.replies.Reply.{Reply}
+use Rattle.solid_base.specs.Series.{Spells, HasRead}
+use Rattle.solid_base.proofs.SeriesLaws.{series_same, read_step}
 use Rattle.solid_top.specs.Answers.{reply_to}
 use Rattle.solid_top.specs.declared.questions.PointQuestion.{PointQuestion}
 use Rattle.solid_top.specs.declared.spheres.Sphere.{Sphere}
@@ -10,9 +12,7 @@ use Rattle.solid_top.specs.FormReading.{point_at}
 use Rattle.solid_top.specs.Output.{reply_text}
 use Rattle.solid_top.specs.Points.{IsPointLine}
 use Rattle.solid_top.specs.Reading.{strip}
-use Rattle.solid_top.specs.Series.{Spells, HasRead}
 use Rattle.solid_top.proofs.PointLaws.{point_reader, point_takes}
-use Rattle.solid_top.proofs.SeriesLaws.{series_same, read_step}
 
 -- a reply of version 0 by its parts
 pub reply_joined : (out one two three body : List ℕ) → one ≡ out ++ codes "0 " → two ≡ one ++ body → three ≡ two ++ codes "\n" → three ≡ out ++ reply_text (record { version = Some 0; body = body })

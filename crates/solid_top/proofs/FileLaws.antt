@@ -4,6 +4,8 @@ use Rattle.std.specs.List.{list_all, AllByRecursion, concat}
 use Rattle.std.proofs.lemmas.List.{take-append-drop, length-replicate}
 use Rattle.std.proofs.Math.Seq.{take-append_seam, drop-append_seam}
 use Rattle.solid_base.proofs.Ring.{code}
+use Rattle.solid_base.proofs.Pairs.{same_pair}
+use Rattle.solid_base.proofs.SeriesLaws.{IsReader}
 use Rattle.solid_top.specs.declared.plain_numbers.DecimalPoint.TheVariants as point
 use Rattle.solid_top.specs.declared.spheres.Sphere.{Sphere}
 use Rattle.solid_top.specs.Columns.{blanks}
@@ -11,9 +13,8 @@ use Rattle.solid_top.specs.FirstForm.{line_end, parameter_end, first_directory_l
 use Rattle.solid_top.specs.FormReading.{delimited_at, position_at, sphere_at, parameter_line_at, start_line_at, pair_at}
 use Rattle.solid_top.specs.Reading.{◌>>=◌, strip, strip_all}
 use Rattle.solid_top.proofs.PointLaws.{IsStop, delimited_again, delimited_takes, position_again, position_takes}
-use Rattle.solid_top.proofs.SeriesLaws.{IsReader}
 use Rattle.solid_top.proofs.Strips.{strip_again, strip_takes, strip_all-concat, strip-append}
-use Rattle.solid_top.proofs.StepLaws.{both, turned, passed, not_stopped, both_gave, same_pair, test_same, test_other, test_not, at_least, not_lt_test, bind-more}
+use Rattle.solid_top.proofs.StepLaws.{both, turned, passed, not_stopped, both_gave, test_same, test_other, test_not, at_least, not_lt_test, bind-more}
 
 pub all_again : (texts : List (List ℕ)) (rest : List ℕ) → strip_all texts (concat texts ++ rest) ≡ Some rest
 all_again texts rest = strip_all-concat texts (concat texts ++ rest) ∙ strip_again (concat texts) rest

@@ -2,15 +2,15 @@
 use Rattle.std.proofs.Common.{◌≡◌, ℕ, zero, suc, ◌+◌, ◌-◌, ◌<◌, ◌≤◌, List, [], ◌∷◌, ◌++◌, length, None, Some, refl, sym, ap, ◌∙◌, arith, append_assoc, append-nil, length-append, codes, inl, inr}
 use Rattle.std.specs.List.{concat}
 use Rattle.std.proofs.lemmas.Bool.{cases_lt}
+use Rattle.solid_base.specs.Series.{Spells, HasRead}
+use Rattle.solid_base.proofs.SeriesLaws.{series_same, series_counted, series_goes_on, read_step}
 use Rattle.solid_top.specs.declared.spheres.Sphere.{Sphere}
 use Rattle.solid_top.specs.Columns.{blanks, padded}
 use Rattle.solid_top.specs.FirstForm.{line_end, global_line, directory_pair, directory_text, terminate_line, parameter_end, IsStartLine, IsParameterLine, IsFile}
 use Rattle.solid_top.specs.FormReading.{start_line_at, pair_at, parameter_line_at}
 use Rattle.solid_top.specs.Head.{IsHead}
 use Rattle.solid_top.specs.Reading.{strip, strip_all}
-use Rattle.solid_top.specs.Series.{Spells, HasRead}
 use Rattle.solid_top.proofs.FileLaws.{start_reader, parameter_reader, pair-strips, pair_takes, start_steps_none, all_again, all_takes}
-use Rattle.solid_top.proofs.SeriesLaws.{series_same, series_counted, series_goes_on, read_step}
 use Rattle.solid_top.proofs.Strips.{strip_again}
 
 pub same_front : (a x y : List ℕ) → a ++ x ≡ a ++ y → x ≡ y

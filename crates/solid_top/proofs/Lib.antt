@@ -9,6 +9,5 @@ pub mod Reading
 pub mod ReadingLaws
 pub mod ReplayLaws
 pub mod RunLaws
-pub mod SeriesLaws
 pub mod StepLaws
 pub mod Strips

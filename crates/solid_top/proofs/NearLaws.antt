@@ -2,6 +2,7 @@
 use Rattle.std.proofs.Common.{◌≡◌, ℕ, zero, suc, ◌≤◌, ◌%◌, ◌/◌, ◌==◌, Bool, true, false, cond, ℤ, List, [], ◌∷◌, None, Some, slice_get, sym, subst, arith}
 use Rattle.solid_base.proofs.Ring.{code}
 use Rattle.solid_base.specs.Range.{far, IsWithin}
+use Rattle.solid_base.specs.Series.{Spells}
 use Rattle.solid_top.specs.Answers.{row_of}
 use Rattle.solid_top.specs.declared.plain_numbers.DecimalPoint.{DecimalPoint}
 use Rattle.solid_top.specs.declared.spheres.Sphere.{Sphere}
@@ -9,7 +10,6 @@ use Rattle.solid_top.specs.FirstForm.{IsSphereRecord, IsParameterLine, IsFile}
 use Rattle.solid_top.specs.Near.{IsNearSphere, AreNear}
 use Rattle.solid_top.specs.PlainNumbers.{magnitude, signed}
 use Rattle.solid_top.specs.Points.{IsDelimited}
-use Rattle.solid_top.specs.Series.{Spells}
 
 item_near : (spheres : List Sphere) (place : ℕ) (sphere : Sphere) → AreNear spheres → slice_get spheres place ≡ Some sphere → IsNearSphere sphere
 item_near [] place sphere h e = cc

@@ -1,10 +1,11 @@
 -- What is read as a plain number is spelt so, and what is spelt so is read.
-use Rattle.std.proofs.Common.{◌≡◌, ℕ, ◌+◌, ◌<◌, ◌≤◌, List, [], ◌∷◌, ◌++◌, Bool, true, false, cond, not, ◌&&◌, ◌==◌, nat_lt, nat_le, length, take, drop, None, Some, IsTrue, refl, sym, subst, arith, one-add, append-nil, ℤ}
+use Rattle.std.proofs.Common.{◌≡◌, ℕ, ◌<◌, ◌≤◌, List, [], ◌∷◌, ◌++◌, Bool, true, false, cond, not, ◌&&◌, ◌==◌, nat_lt, nat_le, length, take, drop, None, Some, IsTrue, refl, sym, subst, arith, one-add, append-nil, ℤ}
 use Rattle.std.specs.List.{prefix_len, list_all}
 use Rattle.std.proofs.lemmas.List.{take-append-drop}
 use Rattle.std.proofs.Math.Seq.{take-append_seam, drop-append_seam}
 use Rattle.solid_base.specs.Digits.{is_digit, AreDigits}
 use Rattle.solid_base.specs.Range.{far}
+use Rattle.solid_base.proofs.Prefix.{front_passes}
 use Rattle.solid_top.specs.declared.plain_numbers.DecimalPoint.{DecimalPoint}
 use Rattle.solid_top.specs.declared.plain_numbers.DecimalPoint.TheVariants as point
 use Rattle.solid_top.specs.PlainNumbers.{PlainNumber, HasDigits, HasPoint, IsPlain, plain_text, sign_text, decimals_text, magnitude, signed}
@@ -18,14 +19,6 @@ all_test (d ∷ ds) h = rw (h.0, all_test ds h.1) refl
 pub test_all : (ds : List ℕ) → list_all is_digit ds ≡ true → AreDigits ds
 test_all [] h = tt
 test_all (d ∷ ds) h = let (a, b) = both (is_digit d) (list_all is_digit ds) h in (a, test_all ds b)
-
-prefix_case : (x : ℕ) (xs : List ℕ) (v : Bool) → is_digit x ≡ v → AreDigits (take (prefix_len is_digit xs) xs) → AreDigits (take (cond v (1 + prefix_len is_digit xs) 0) (x ∷ xs))
-prefix_case x xs true e h = rw one-add (e, h)
-prefix_case x xs false e h = tt
-
-prefix_digits : (xs : List ℕ) → AreDigits (take (prefix_len is_digit xs) xs)
-prefix_digits [] = tt
-prefix_digits (x ∷ xs) = prefix_case x xs (is_digit x) refl (prefix_digits xs)
 
 -- digits end where the point or the text does
 prefix_ends : (ds decimals : List ℕ) → AreDigits ds → prefix_len is_digit (ds ++ decimals_text decimals) ≡ length ds
@@ -76,7 +69,7 @@ behind_shaped minus whole (b ∷ bs) n h e =
 sign_shaped : (minus : Bool) (text : List ℕ) (n : PlainNumber) → behind_sign minus text ≡ Some n → Shaped minus text n
 sign_shaped minus text n e =
     let k = prefix_len is_digit text in
-    subst (λ t. Shaped minus t n) (take-append-drop k text) (behind_shaped minus (take k text) (drop k text) n (prefix_digits text) e)
+    subst (λ t. Shaped minus t n) (take-append-drop k text) (behind_shaped minus (take k text) (drop k text) n (front_passes is_digit text) e)
 
 pub record IsSpelt (text : List ℕ) (n : PlainNumber) : Type 0 where
   pub spelt : text ≡ plain_text n

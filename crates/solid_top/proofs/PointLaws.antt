@@ -3,6 +3,8 @@ use Rattle.std.proofs.Common.{◌≡◌, ◌≢◌, ℕ, ◌<◌, ◌≤◌, Lis
 use Rattle.std.specs.List.{list_all, AllByRecursion}
 use Rattle.solid_base.specs.declared.geometry.Vec3.{Vec3}
 use Rattle.solid_base.specs.Digits.{is_digit, number_of, AreDigits}
+use Rattle.solid_base.proofs.Pairs.{same_pair}
+use Rattle.solid_base.proofs.SeriesLaws.{IsReader}
 use Rattle.solid_top.specs.declared.plain_numbers.DecimalPoint.{DecimalPoint}
 use Rattle.solid_top.specs.declared.plain_numbers.DecimalPoint.TheVariants as point
 use Rattle.solid_top.specs.declared.questions.PointQuestion.{PointQuestion}
@@ -12,9 +14,8 @@ use Rattle.solid_top.specs.PlainReading.{plain_at}
 use Rattle.solid_top.specs.Points.{IsDelimited, IsPosition, IsEntityNumber, IsPointLine}
 use Rattle.solid_top.specs.Reading.{◌>>=◌, strip, cut}
 use Rattle.solid_top.proofs.PlainLaws.{all_test, test_all, plain_again, plain_takes}
-use Rattle.solid_top.proofs.SeriesLaws.{IsReader}
 use Rattle.solid_top.proofs.Strips.{strip_again, strip_takes, cut_again, cut_takes}
-use Rattle.solid_top.proofs.StepLaws.{both, le_test, test_le, lt_test, test_lt, passed, both_gave, same_pair}
+use Rattle.solid_top.proofs.StepLaws.{both, le_test, test_le, lt_test, test_lt, passed, both_gave}
 
 -- what code found of an entity's number
 pub entity_found : (text : List ℕ) (n : ℕ) → list_all is_digit text ≡ true → (length text == 0) ≡ false → length text ≤ 9 → n ≡ number_of text → n ≢ 0 → entity_number_at text ≡ Some n

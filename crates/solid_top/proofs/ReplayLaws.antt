@@ -5,6 +5,8 @@ use Rattle.std.proofs.lemmas.Fmt.{decimal_digit}
 use Rattle.std.proofs.lemmas.List.{length-map}
 use Rattle.std.specs.declared.alloc.AllocError.{AllocError}
 use Rattle.solid_base.specs.declared.replies.Reply.{Reply}
+use Rattle.solid_base.specs.Series.{Spells}
+use Rattle.solid_base.proofs.SeriesLaws.{series_same}
 use Rattle.solid_top.specs.declared.faults.TopFault.TheVariants as fault
 use Rattle.solid_top.specs.declared.questions.PointQuestion.{PointQuestion}
 use Rattle.solid_top.specs.declared.replay.Output.{Output}
@@ -17,12 +19,10 @@ use Rattle.solid_top.specs.FormReading.{point_at}
 use Rattle.solid_top.specs.Output.{reply_text, session_text, output_text}
 use Rattle.solid_top.specs.Points.{IsPointLine}
 use Rattle.solid_top.specs.Replay.{IsReplayed, IsNoFirstForm}
-use Rattle.solid_top.specs.Series.{Spells}
 use Rattle.solid_top.specs.TopFaults.{refused_text}
 use Rattle.solid_top.proofs.AnswerLaws.{nothing_read}
 use Rattle.solid_top.proofs.FormLaws.{file_unique}
 use Rattle.solid_top.proofs.PointLaws.{point_reader}
-use Rattle.solid_top.proofs.SeriesLaws.{series_same}
 
 -- the text of a run without commits in which session 1 alone has lines, by its parts
 pub output_joined : (all : List Reply) (one two three : List ℕ) → one ≡ codes "LOG 0\n" → two ≡ one ++ session_text 1 all → three ≡ two ++ codes "END\n" → three ≡ output_text [] ([] ∷ all ∷ [])

@@ -1,5 +1,5 @@
 -- Tests, and steps that give something or nothing.
-use Rattle.std.proofs.Common.{◌≡◌, ◌≢◌, ℕ, ◌<◌, ◌≤◌, Bool, true, false, cond, not, ◌&&◌, ◌==◌, nat_lt, nat_le, Option, None, Some, List, [], ◌∷◌, length, refl, sym, ap, ◌∙◌, arith}
+use Rattle.std.proofs.Common.{◌≡◌, ◌≢◌, ℕ, ◌<◌, ◌≤◌, Bool, true, false, cond, not, ◌&&◌, ◌==◌, nat_lt, nat_le, Option, None, Some, List, [], ◌∷◌, length, refl, sym, ◌∙◌, arith}
 use Rattle.solid_top.specs.Reading.{◌>>=◌}
 
 pub both : (a b : Bool) → a && b ≡ true → (a ≡ true) × (b ≡ true)
@@ -53,12 +53,6 @@ passed false x y h = cc
 pub not_stopped : {A : Type 0} (v : Bool) (x : Option A) (y : A) → cond v None x ≡ Some y → (v ≡ false) × (x ≡ Some y)
 not_stopped true x y h = cc
 not_stopped false x y h = (refl, h)
-
--- two pairs that are the same
-pub same_pair : {A B : Type 0} (x a : A) (y b : B) → ◌≡◌ {A = Option (A × B)} (Some (x, y)) (Some (a, b)) → (x ≡ a) × (y ≡ b)
-same_pair {A} {B} x a y b h =
-    let e : ◌≡◌ {A = A × B} (x, y) (a, b) = cc in
-    (ap (λ (p : A × B). p.0) e, ap (λ (p : A × B). p.1) e)
 
 -- a step and the next one gave something
 pub both_gave : {A B : Type 0} (o : Option A) (f : A → Option B) (y : B) → (o >>= f) ≡ Some y → (x : A) × (o ≡ Some x) × (f x ≡ Some y)

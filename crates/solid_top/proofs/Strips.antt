@@ -5,7 +5,8 @@ use Rattle.std.specs.List.{AllByRecursion, list_all, concat}
 use Rattle.std.proofs.lemmas.List.Elements.{recursion_from_All}
 use Rattle.std.proofs.lemmas.List.{take-append-drop}
 use Rattle.std.proofs.Math.Seq.{drop-cons}
-use Rattle.solid_top.proofs.StepLaws.{same_test, test_same, test_other, test_turned, passed, same_pair, bind-more, bind-bind}
+use Rattle.solid_base.proofs.Pairs.{same_pair}
+use Rattle.solid_top.proofs.StepLaws.{same_test, test_same, test_other, test_turned, passed, bind-more, bind-bind}
 use Rattle.solid_top.specs.Columns.{blanks, padded}
 use Rattle.solid_top.specs.Reading.{◌>>=◌, strip, strip_all, cut}
 

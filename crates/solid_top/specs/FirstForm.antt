@@ -3,12 +3,12 @@
 -- Every line has 80 columns and ends with LF. In these definitions a line is the bytes with its LF.
 use Rattle.std.specs.Prelude.{◌≡◌, ◌≢◌, ◌<◌, ◌≤◌, ℕ, zero, suc, ◌+◌, ◌*◌, ◌-◌, pos, ◌<ℤ◌, List, [], ◌∷◌, ◌++◌, codes, length}
 use Rattle.std.specs.List.{AllByRecursion, concat}
+use Rattle.solid_base.specs.Series.{Spells}
 use Rattle.solid_top.specs.declared.plain_numbers.DecimalPoint.TheVariants as point
 use Rattle.solid_top.specs.declared.questions.PointQuestion.{PointQuestion}
 use Rattle.solid_top.specs.declared.spheres.Sphere.{Sphere}
 use Rattle.solid_top.specs.Columns.{blanks, padded}
 use Rattle.solid_top.specs.Points.{IsDelimited, IsPosition, IsPointLine}
-use Rattle.solid_top.specs.Series.{Spells}
 
 -- the end of a line: the section letter in column 73, the sequence number at the right of columns 74 to 80, LF
 abbrev pub line_end : ℕ → ℕ → List (List ℕ)

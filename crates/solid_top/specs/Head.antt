@@ -1,9 +1,9 @@
 -- The part of a file of the first form in front of its parameter lines.
 use Rattle.std.specs.Prelude.{◌≡◌, ◌<◌, ◌≤◌, ℕ, List, ◌++◌, length, None}
 use Rattle.std.specs.List.{concat}
+use Rattle.solid_base.specs.Series.{Spells}
 use Rattle.solid_top.specs.FirstForm.{IsStartLine, global_line, directory_text}
 use Rattle.solid_top.specs.FormReading.{pair_at}
-use Rattle.solid_top.specs.Series.{Spells}
 
 -- start lines, the global line and the directory lines of so many entities, and no directory lines behind them
 pub record IsHead (bytes : List ℕ) (starts count : ℕ) (rest : List ℕ) : Type 0 where

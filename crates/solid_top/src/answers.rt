@@ -1,13 +1,13 @@
-ghost use Rattle.std.specs.Prelude.{◌≡◌, ◌≤◌, ◌≤ℤ◌, ◌^◌, ◌++◌, ℕ, List, pos, length, codes, decimal, map, OnOk, OnErr, IfOk, IfSome, IfNone};
+ghost use Rattle.std.specs.Prelude.{◌≡◌, ◌≤◌, ◌≤ℤ◌, ◌^◌, ◌++◌, ℕ, List, pos, length, map, OnOk, OnErr, IfOk, IfSome, IfNone};
 ghost use Rattle.std.specs.List.{flat_map};
 ghost use Rattle.solid_base.specs.Range.{far, IsPointWithin};
+ghost use Rattle.solid_base.specs.Series.{Spells};
 ghost use Rattle.solid_top.specs.declared.questions.PointQuestion.{PointQuestion};
 ghost use Rattle.solid_top.specs.Answers.{row_of, class_words, answer, reply_to};
 ghost use Rattle.solid_top.specs.Near.{IsNearSphere, AreNear};
 ghost use Rattle.solid_top.specs.Output.{reply_text};
 ghost use Rattle.solid_top.specs.Points.{IsPointLine};
 ghost use Rattle.solid_top.specs.Reading.{Gives};
-ghost use Rattle.solid_top.specs.Series.{Spells};
 
 use crate::points::point_line;
 use crate::questions::PointQuestion;

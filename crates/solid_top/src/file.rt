@@ -1,9 +1,9 @@
 ghost use Rattle.std.specs.Prelude.{◌≡◌, ◌≤◌, ◌<◌, ◌^◌, ◌+◌, ◌++◌, ℕ, List, length, Option, None, IfOk, IfSome, IfNone, MatchOption};
+ghost use Rattle.solid_base.specs.Series.{Spells, HasRead};
 ghost use Rattle.solid_top.specs.declared.spheres.Sphere.{Sphere};
 ghost use Rattle.solid_top.specs.FirstForm.{directory_text, IsStartLine, IsParameterLine, IsFile};
 ghost use Rattle.solid_top.specs.FormReading.{start_line_at, pair_at};
 ghost use Rattle.solid_top.specs.Head.{IsHead};
-ghost use Rattle.solid_top.specs.Series.{Spells, HasRead};
 
 use crate::file_lines::{directory_pair, global_line, parameter_line, start_line, terminate_line};
 use crate::spheres::Sphere;

@@ -1,6 +1,6 @@
 use Rattle.std.proofs.Common.{◌≡◌, ◌≤◌, ◌+◌, ℕ, List, length}
+use Rattle.solid_base.specs.Series.{HasRead}
 use Rattle.solid_top.specs.FirstForm.{IsStartLine}
-use Rattle.solid_top.specs.Series.{HasRead}
 use Rattle.solid_top.proofs.file.start_lines.Given as goal
 
 abbrev pub invariant-loop-behind : goal.invariant-loop-behind

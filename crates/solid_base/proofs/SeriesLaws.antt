@@ -1,8 +1,8 @@
 -- Laws of texts that stand one after the other.
 use Rattle.std.proofs.Common.{◌≡◌, ℕ, suc, ◌+◌, ◌<◌, ◌≤◌, List, [], ◌∷◌, ◌++◌, length, Option, None, Some, refl, sym, ap, subst, ◌∙◌, arith, append_assoc, append-nil, length-append, inl, inr}
 use Rattle.std.proofs.lemmas.Bool.{cases_lt}
-use Rattle.solid_top.specs.Series.{Spells, HasRead}
-use Rattle.solid_top.proofs.StepLaws.{same_pair}
+use Rattle.solid_base.specs.Series.{Spells, HasRead}
+use Rattle.solid_base.proofs.Pairs.{same_pair}
 
 -- a reader of one item in front reads what is spelt, and nothing else
 pub record IsReader {X : Type 0} (Item : ℕ → List ℕ → X → Type 0) (item_at : ℕ → List ℕ → Option (X × List ℕ)) : Type 0 where
@@ -20,6 +20,11 @@ Spells-more {X} Item k text last (y ∷ ys) x h l =
     let (first, more, whole, is, rest) = h in
     let at : k + suc (length ys) ≡ suc k + length ys = omega arith in
     (first, more ++ last, ap (λ t. t ++ last) whole ∙ append_assoc first more last, is, Spells-more Item (suc k) more last ys x rest (subst (λ j. Item j last x) at l))
+
+-- no items have no text
+pub none_spelt : {X : Type 0} (Item : ℕ → List ℕ → X → Type 0) (k : ℕ) (text : List ℕ) (xs : List X) → xs ≡ [] → Spells Item k text xs → text ≡ []
+none_spelt Item k text [] e h = h
+none_spelt Item k text (x ∷ xs) e h = cc
 
 -- of two series in front of the same bytes the shorter one begins the longer one
 pub series_split : {X : Type 0} (Item : ℕ → List ℕ → X → Type 0) (item_at : ℕ → List ℕ → Option (X × List ℕ)) → IsReader Item item_at → (k : ℕ) (s t p q : List ℕ) (xs ys : List X)

@@ -1,7 +1,0 @@
--- Texts that stand one after the other.
-use Rattle.std.specs.Prelude.{◌≡◌, ℕ, suc, List, [], ◌∷◌, ◌++◌}
-
--- the text is those of the items, one after the other; Item says which text a numbered item has, and k is the first number
-abbrev pub Spells : {X : Type 0} → (ℕ → List ℕ → X → Type 0) → ℕ → List ℕ → List X → Type 0
-Spells Item k text [] = text ≡ []
-Spells Item k text (x ∷ xs) = (first more : List ℕ) × (text ≡ first ++ more) × Item k first x × Spells Item (suc k) more xs
