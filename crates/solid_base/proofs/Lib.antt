@@ -5,5 +5,6 @@ pub mod Digits
 pub mod Numerals
 pub mod Decimals
 pub mod Spellings
+pub mod PostOrders
 pub mod DecimalTexts
 pub mod SeriesLaws
