@@ -3,8 +3,8 @@ use Rattle.std.specs.Prelude.{ℕ, ◌<◌, ◌≤◌, ◌^◌, ℤ, pos, ◌<�
 use Rattle.std.specs.List.{AllByRecursion}
 use Rattle.solid_base.specs.declared.geometry.Vec3.{Vec3}
 use Rattle.solid_base.specs.declared.geometry.Affine.{Affine}
-use Rattle.solid_base.specs.declared.solids.Prim.{Prim}
-use Rattle.solid_base.specs.declared.solids.Prim.TheVariants as prim
+use Rattle.solid_base.specs.declared.solids.Primitive.{Primitive}
+use Rattle.solid_base.specs.declared.solids.Primitive.TheVariants as prim
 use Rattle.solid_base.specs.declared.solids.Item.{Item}
 use Rattle.solid_base.specs.declared.solids.Item.TheVariants as item
 use Rattle.solid_base.specs.declared.solids.Placed.{Placed}
@@ -50,7 +50,7 @@ AreAxes u w = IsAxis u × IsAxis w × IsRightAngle u w
 -- ---- primitives
 
 -- the parameters of a primitive are in their ranges
-abbrev pub IsLawfulPrim : Prim → Type 0
+abbrev pub IsLawfulPrim : Primitive → Type 0
 -- IGES 5.3, type 150: three lengths, the corner, the local axes
 IsLawfulPrim (prim.Block size corner u w) = AreSizes size × IsPointWithin far corner × AreAxes u w
 -- IGES 5.3, type 152: LTX is at least 0 and less than LX

@@ -23,7 +23,7 @@ pub use lists::{Bytes, Lines, List, Numbers};
 pub use replies::Reply;
 pub use rows::Rows;
 pub use scan::{after_sign, are_blanks, behind_blanks, digit_count, number_up_to};
-pub use solids::{Item, Items, Placed, PlacedList, Prim, Row};
+pub use solids::{Item, Items, Placed, PlacedList, Primitive as Prim, Row};
 pub use words::{push_decimal, word, word_and_number};
 
 /// The steps in one unit: every length and coordinate is a whole number of steps of 10^-12 units.

@@ -3,7 +3,7 @@ use crate::lists::{Bytes, List};
 
 /// A primitive solid (IGES 5.3, types 150 to 160 and 168). Lengths, places and directions in steps.
 #[derive(Clone, Copy, Debug, PartialEq, Eq)]
-pub enum Prim {
+pub enum Primitive {
     /// Type 150: lengths along the local axes, the corner, the local X axis `u` and Z axis `w`.
     Block {
         size: Vec3,
@@ -96,7 +96,7 @@ pub enum Row {
         next: u32,
     },
     Prim {
-        prim: Prim,
+        prim: Primitive,
         matrix: u32,
     },
     Tree {
