@@ -1,4 +1,4 @@
--- solidd's own: where a list of items stops to be one tree in post-order. The record's parameter 1 is the number of items, and the items stand from parameter 2 on.
+-- solidd's own: where a list of items stops being one tree in post-order. The record's parameter 1 is the number of items, and the items stand from parameter 2 on.
 use Rattle.std.specs.Prelude.{◌≡◌, ◌≢◌, ◌⊎◌, ℕ, ◌+◌, ◌<◌, List, ◌∷◌, ◌++◌, length, flat_map}
 use Rattle.solid_base.specs.declared.solids.Item.{Item}
 use Rattle.solid_base.specs.Trees.{Operation, Tree, item_of, post_order}
@@ -18,6 +18,6 @@ pub record LeavesOthers (items : List Item) : Type 0 where
   pub not_one : length trees ≢ 1
   pub spelt : items ≡ flat_map post_order trees
 
--- solidd's own: parameter n is where the items stop to be one tree
+-- solidd's own: parameter n is where the items stop being one tree
 abbrev pub IsFault : ℕ → List Item → Type 0
 IsFault n items = LacksOperands n items ⊎ ((n ≡ 1) × LeavesOthers items)

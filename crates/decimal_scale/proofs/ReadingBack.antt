@@ -1,5 +1,5 @@
 -- What is written with 12 places is read as the same steps.
-use Rattle.std.proofs.Common.{◌≡◌, ℕ, zero, suc, ◌+◌, ◌-◌, ◌*◌, ◌/◌, ◌%◌, ◌^◌, ◌<◌, ◌≤◌, List, [], ◌∷◌, ◌++◌, ◌==◌, length, take, drop, reverse, get_or, max, Bool, true, IsTrue, Some, None, Result, Ok, Err, IfOk, refl, sym, ap, subst, ◌∙◌, arith, decimal, ℤ, pos, negsuc, unsigned_abs, length-drop}
+use Rattle.std.proofs.Common.{◌≡◌, inl, ℕ, zero, suc, ◌+◌, ◌-◌, ◌*◌, ◌/◌, ◌%◌, ◌^◌, ◌<◌, ◌≤◌, List, [], ◌∷◌, ◌++◌, ◌==◌, length, take, drop, reverse, get_or, max, Bool, true, IsTrue, Some, None, Result, Ok, Err, IfOk, refl, sym, ap, subst, ◌∙◌, arith, decimal, ℤ, pos, negsuc, unsigned_abs, length-drop}
 use Rattle.std.specs.List.{suffix_len}
 use Rattle.std.specs.declared.alloc.AllocError.{AllocError}
 use Rattle.std.proofs.Math.Nat.{pow-suc}
@@ -9,7 +9,7 @@ use Rattle.std.proofs.lemmas.Fmt.{decimal_by_steps_wide}
 use Rattle.std.proofs.lemmas.List.{append-nil, take-append-drop, length-take-le, get_or-drop, get_or-reverse}
 use Rattle.std.proofs.lemmas.List.Sums.{prefix_len_passes, suffix_len-le-length}
 use Rattle.solid_base.specs.Digits.{is_digit, AreDigits, number_of}
-use Rattle.solid_base.specs.Spelling.{Sign, NoSign, Minus, sign_text}
+use Rattle.solid_base.specs.Spelling.{Sign, NoSign, Minus, IsReal, sign_text}
 use Rattle.solid_base.specs.Decimal.{with_sign, IsNearest, IsReading}
 use Rattle.solid_base.proofs.Digits.{ten_positive, number_of-append, digits_append, digits_take, number_of_zeros}
 use Rattle.decimal_scale.specs.Writing.{last_digits, minus_text, real_text}
@@ -35,7 +35,7 @@ spelt_more : (n : ℕ) (ds : List ℕ) → 10 ≤ n → IsSpelt (n / 10) ds → 
 unfolding IsSpelt
 spelt_more n ds h i = let p = pushed (n / 10) (n % 10) ds (omega arith) i.0 i.1 in (p.0, p.1 ∙ omega arith)
 
-decimal_spelt : (n : ℕ) → n < 10 ^ 64 → AreDigits (decimal n) × (number_of (decimal n) ≡ n)
+pub decimal_spelt : (n : ℕ) → n < 10 ^ 64 → AreDigits (decimal n) × (number_of (decimal n) ≡ n)
 unfolding IsSpelt
 decimal_spelt n h = decimal_by_steps_wide IsSpelt spelt_digit spelt_more n h
 
@@ -102,6 +102,11 @@ reads_back value h =
       nearest = written_nearest ws (take k full) (drop k full) size 12 part (ap (λ (t : List ℕ). number_of t) (take-append-drop k full) ∙ is) none (omega (arith, kept, rest)) (omega (arith, whole.1));
       signed = signed;
     }
+
+-- what is written is spelt as a real number
+pub real_text_real : (value : ℤ) → unsigned_abs value ≤ 10 ^ 37 → IsReal (real_text value 12)
+unfolding reads_back
+real_text_real value h = let read = reads_back value h in record { number = read.number; lawful = read.lawful; marked = inl refl; spelt = read.spelt }
 
 pub ok_reads_back : (r : Result (List ℕ) AllocError) (value : ℤ) (places : ℕ) → places ≡ 12 → unsigned_abs value ≤ 10 ^ 37 → IfOk r (λ text. text ≡ real_text value places) → IfOk r (λ text. IsReading text value)
 ok_reads_back (Ok text) value places twelve h is = subst (λ (t : List ℕ). IsReading t value) (sym (is ∙ ap (real_text value) twelve)) (reads_back value h)

@@ -98,6 +98,7 @@ fn writes_texts(rt: HostRuntime) {
     ] {
         let written = write_real(rt.alloc(), value, places).expect(&rt, "there is ample memory");
         assert_eq!(rt; written.as_slice(), text.as_bytes(), "{text}");
+        assert_eq!(rt; real_length(value, places), text.len(), "{text}");
     }
 }
 

@@ -20,6 +20,17 @@ pub fn write_real(alloc: Global, value: i128, places: u32) -> Result<Bytes, Allo
     write(alloc, value, places)
 }
 
+/// How many bytes the text of `value / 10^places` has that `write_real` writes. It takes no memory.
+pub fn real_length(value: i128, places: u32) -> usize
+    requires { (1 ≤ places) × (places ≤ 15) }
+    ensures { result ≡ length (real_text value places) }
+{
+    let size = value.unsigned_abs();
+    let unit = power_of_ten(u64::from(places));
+    let whole = whole_length(value < 0, size / u128::from(unit));
+    whole + 1 + decimals_length(unit, (size % u128::from(unit)) as u64, places)
+}
+
 fn write(alloc: Global, value: i128, places: u32) -> Result<Bytes, AllocError>
     requires { (1 ≤ places) × (places ≤ 15) }
     ensures { IfOk result (λ text. text ≡ real_text value places) }
@@ -45,6 +56,15 @@ fn write_whole(alloc: Global, is_negative: bool, whole: u128) -> Result<Vec<u8>,
     Ok(text)
 }
 
+/// How many bytes a minus sign or none and a whole number have.
+fn whole_length(is_negative: bool, whole: u128) -> usize
+    ensures value { result ≡ length (cond is_negative (45 ∷ []) [] ++ decimal whole) }
+    ensures within { result ≤ 41 }
+{
+    let mut buffer = Buffer::new();
+    usize::from(is_negative) + buffer.format(whole).len()
+}
+
 /// Adds the decimals of a part of a unit, which is a power of ten.
 fn push_decimals(text: &mut Vec<u8>, unit: u64, part: u64, places: u32) -> Result<(), AllocError>
     requires unit { unit ≡ 10 ^ places }
@@ -56,6 +76,19 @@ fn push_decimals(text: &mut Vec<u8>, unit: u64, part: u64, places: u32) -> Resul
     let mut buffer = Buffer::new();
     let decimals = &buffer.format(unit + part).as_bytes()[1..];
     text.extend_from_slice(significant(decimals))
+}
+
+/// How many decimals of a part of a unit are written.
+fn decimals_length(unit: u64, part: u64, places: u32) -> usize
+    requires unit { unit ≡ 10 ^ places }
+    requires places { (1 ≤ places) × (places ≤ 15) }
+    requires part { part < unit }
+    ensures value { result ≡ length (without_zeros (last_digits places part)) }
+    ensures within { result ≤ 40 }
+{
+    let mut buffer = Buffer::new();
+    let decimals = &buffer.format(unit + part).as_bytes()[1..];
+    significant(decimals).len()
 }
 
 /// Digits without the zeros behind them, but at least one digit.

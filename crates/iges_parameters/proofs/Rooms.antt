@@ -1,0 +1,37 @@
+-- How much room tokens take in lines.
+use Rattle.std.proofs.Common.{◌≡◌, ℕ, ◌+◌, ◌*◌, List, [], ◌∷◌, ◌++◌, length, replicate, refl, ap, ◌∙◌, arith, length-append}
+use Rattle.std.specs.List.{AllByRecursion, concat}
+use Rattle.std.proofs.lemmas.List.{length-replicate}
+use Rattle.solid_base.specs.declared.entities.Token.{Token}
+use Rattle.iges_fields.specs.Grammar.{delimiter}
+use Rattle.iges_fields.specs.Layout.{spelling_of_token, piece, gap, placed, laid, is_last, AreLines}
+use Rattle.iges_parameters.specs.Writing.{lines_for}
+use Rattle.iges_parameters.specs.WrittenRows.{used_behind, room_of}
+
+-- what is laid has the length that is measured, whatever the delimiters
+pub room_laid : (comma semi used : ℕ) (ts : List Token) → used + length (laid 64 comma semi used ts) ≡ room_of used ts
+unfolding room_of laid
+room_laid comma semi used [] = omega arith
+room_laid comma semi used (t ∷ ts) =
+    let p = piece (delimiter comma semi (is_last ts)) t in
+    let size : length p ≡ length (spelling_of_token t) + 1 = length-append (spelling_of_token t) (delimiter comma semi (is_last ts) ∷ []) in
+    let q = placed 64 used p in
+    let long : length q ≡ gap 64 used (length p) + length p = length-append (replicate (gap 64 used (length p)) 32) p ∙ ap (λ (n : ℕ). n + length p) (length-replicate (gap 64 used (length p)) 32) in
+    let next : used + length q ≡ used_behind used (length (spelling_of_token t) + 1) =
+    ap (λ (n : ℕ). used + n) long ∙ (let e : used + (gap 64 used (length p) + length p) ≡ used_behind used (length p) = omega arith in e) ∙ ap (used_behind used) size in
+    let more = laid 64 comma semi (used + length q) ts in
+    let joined : used + length (q ++ more) ≡ (used + length q) + length more = omega (arith, length-append q more) in
+    joined ∙ room_laid comma semi (used + length q) ts ∙ ap (λ (n : ℕ). room_of n ts) next
+
+-- lines of 64 columns are as many as their text wants
+concat_size : (lines : List (List ℕ)) → AllByRecursion (λ line. length line ≡ 64) lines → length (concat lines) ≡ 64 * length lines
+concat_size [] h = refl
+concat_size (line ∷ lines) h = length-append line (concat lines) ∙ (let more = concat_size lines h.1 in let one = h.0 in omega (arith, more, one))
+
+pub lines_are : (text : List ℕ) (lines : List (List ℕ)) → AreLines 64 text lines → length lines ≡ lines_for (length text)
+lines_are text lines is =
+    let size = concat_size lines is.wide in
+    let joined = ap (length {A = ℕ}) is.joined ∙ length-append text (replicate is.blanks 32) in
+    let fill = length-replicate {A = ℕ} is.blanks 32 in
+    let few = is.few in
+    omega (arith, size, joined, fill, few)

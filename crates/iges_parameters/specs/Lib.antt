@@ -1,0 +1,10 @@
+pub mod Faults
+pub mod RecordFields
+pub mod Rules
+pub mod Tables
+pub mod Rows
+pub mod Lists
+pub mod Records
+pub mod Writing
+pub mod TreeFaults
+pub mod WrittenRows
