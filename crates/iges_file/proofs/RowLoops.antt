@@ -1,0 +1,55 @@
+-- The entities of entries, read one after the other, as a loop does; and their lines, counted so.
+use Rattle.std.proofs.Common.{◌≡◌, ℕ, zero, suc, ◌+◌, ◌*◌, List, [], ◌∷◌, ◌++◌, length, drop, Some, slice_get, Ok, Err, refl}
+use Rattle.std.specs.List.{AllByRecursion}
+use Rattle.solid_base.specs.declared.entities.Entity.{Entity}
+use Rattle.iges_directory.specs.declared.pairs.Pair.{Pair}
+use Rattle.iges_parameters.specs.declared.faults.RowFault.{RowFault}
+use Rattle.iges_parameters.specs.declared.faults.RowFault.TheVariants as row
+use Rattle.iges_parameters.specs.Faults.{IsOfText}
+use Rattle.iges_parameters.specs.Writing.{record_text, lines_for}
+use Rattle.iges_file.specs.Faults.{of_row}
+use Rattle.iges_file.specs.Entities.{entity_in, AreEntities, IsBadRow, IsRowsFault, lines_of}
+
+-- an entity more
+pub entities_pushed : (comma semi : ℕ) (params : List (List ℕ)) (pairs : List Pair) (es : List Entity) (pair : Pair) (e : Entity) → AreEntities comma semi params pairs es → entity_in comma semi params pair ≡ Ok e
+    → AreEntities comma semi params (pairs ++ pair ∷ []) (es ++ e ∷ [])
+entities_pushed comma semi params [] [] pair e all one = (one, tt)
+entities_pushed comma semi params [] (f ∷ es) pair e all one = absurd all
+entities_pushed comma semi params (p ∷ pairs) [] pair e all one = absurd all
+entities_pushed comma semi params (p ∷ pairs) (f ∷ es) pair e all one = (all.0, entities_pushed comma semi params pairs es pair e all.1 one)
+
+-- what holds of each item, and of one behind them
+pub all_pushed : {X : Type 0} (P : X → Type 0) (xs : List X) (x : X) → AllByRecursion P xs → P x → AllByRecursion P (xs ++ x ∷ [])
+all_pushed P [] x all one = (one, tt)
+all_pushed P (y ∷ ys) x all one = (all.0, all_pushed P ys x all.1 one)
+
+-- the first record that has a fault
+blamed : (comma semi : ℕ) (params : List (List ℕ)) (front rest : List Pair) (es : List Entity) (pair : Pair) (number : ℕ) (f : RowFault) → AreEntities comma semi params front es
+    → number ≡ 2 * length front + 1 → entity_in comma semi params pair ≡ Err f → IsBadRow comma semi params (front ++ pair ∷ rest) number f
+blamed comma semi params front rest es pair number f good is bad = record { front = front; entities = es; pair = pair; rest = rest; good = good; bad = bad; cut = refl; number = is }
+
+pub row_blamed : (comma semi : ℕ) (params : List (List ℕ)) (front rest : List Pair) (es : List Entity) (pair : Pair) (number : ℕ) (f : RowFault) → AreEntities comma semi params front es
+    → number ≡ 2 * length front + 1 → (IsOfText f → entity_in comma semi params pair ≡ Err f) → IsRowsFault comma semi params (front ++ pair ∷ rest) (of_row number f)
+row_blamed comma semi params front rest es pair number (row.Memory e) good is bad = tt
+row_blamed comma semi params front rest es pair number row.NotRead good is bad = blamed comma semi params front rest es pair number row.NotRead good is (bad (λ e. cc))
+row_blamed comma semi params front rest es pair number (row.Token i) good is bad = blamed comma semi params front rest es pair number (row.Token i) good is (bad (λ e. cc))
+row_blamed comma semi params front rest es pair number (row.Missing i) good is bad = blamed comma semi params front rest es pair number (row.Missing i) good is (bad (λ e. cc))
+row_blamed comma semi params front rest es pair number (row.WrongKind i) good is bad = blamed comma semi params front rest es pair number (row.WrongKind i) good is (bad (λ e. cc))
+row_blamed comma semi params front rest es pair number (row.TooFar i) good is bad = blamed comma semi params front rest es pair number (row.TooFar i) good is (bad (λ e. cc))
+row_blamed comma semi params front rest es pair number (row.BadSize i) good is bad = blamed comma semi params front rest es pair number (row.BadSize i) good is (bad (λ e. cc))
+row_blamed comma semi params front rest es pair number (row.BadAxis i) good is bad = blamed comma semi params front rest es pair number (row.BadAxis i) good is (bad (λ e. cc))
+row_blamed comma semi params front rest es pair number row.BadMatrix good is bad = blamed comma semi params front rest es pair number row.BadMatrix good is (bad (λ e. cc))
+row_blamed comma semi params front rest es pair number (row.BadPostfix i) good is bad = blamed comma semi params front rest es pair number (row.BadPostfix i) good is (bad (λ e. cc))
+
+-- the lines of the entity at a place, and of those behind it
+pub lines_next : (comma semi : ℕ) (rows : List Entity) (at : ℕ) (e : Entity) → slice_get rows at ≡ Some e
+    → lines_of comma semi (drop at rows) ≡ lines_for (length (record_text comma semi e.row e.tail)) + lines_of comma semi (drop (suc at) rows)
+lines_next comma semi [] at e is = cc
+lines_next comma semi (r ∷ rows) zero e is = let same : r ≡ e = cc in rw same refl
+lines_next comma semi (r ∷ rows) (suc at) e is = lines_next comma semi rows at e is
+
+-- what holds of each item from a place on holds of each behind it
+pub all_behind : {X : Type 0} (P : X → Type 0) (xs : List X) (at : ℕ) → AllByRecursion P (drop at xs) → AllByRecursion P (drop (suc at) xs)
+all_behind P [] at all = tt
+all_behind P (x ∷ xs) zero all = all.1
+all_behind P (x ∷ xs) (suc at) all = all_behind P xs at all

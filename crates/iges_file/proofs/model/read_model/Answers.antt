@@ -1,0 +1,82 @@
+use Rattle.std.proofs.Common.{length, refl, arith}
+use Rattle.std.proofs.lemmas.Result.{err_from_is_err_and}
+use Rattle.iges_file.proofs.FormFacts.{form_within}
+use Rattle.iges_file.proofs.DirectoryFacts.{few_pairs, all_have_lines}
+use Rattle.iges_file.proofs.FirstFaults.{global_refused, directory_refused, rows_refused}
+use Rattle.iges_file.proofs.model.read_model.Goals as goal
+
+pub read_global-requires : goal.read_global-requires
+read_global-requires c =
+    let within = form_within c.args.bytes.now c.in_ok-cards.cards c.in_ok-cards.ensures.fixed_form in
+    record { size = rw c.as_slice.ensures (omega (arith, within.globals, c.requires)) }
+
+pub returns-in_err-global-clause-refused : goal.returns-in_err-global-clause-refused
+returns-in_err-global-clause-refused c =
+    let p = err_from_is_err_and c.from_residual-in_err-global.result c.from_residual-in_err-global.ensures.1 in
+    let first = rw c.as_slice.ensures at c.in_err-global.ensures.first_fault in
+    rw (p.1, p.2) (global_refused c.args.bytes.now c.in_ok-cards.cards c.in_err-global.field-0.0 c.in_ok-cards.ensures.fixed_form first)
+
+pub overflow_cast-len : goal.overflow_cast-len
+overflow_cast-len c =
+    let within = form_within c.args.bytes.now c.in_ok-cards.cards c.in_ok-cards.ensures.fixed_form in
+    rw c.len.ensures (omega (arith, within.few, c.requires))
+
+pub read_directory-requires : goal.read_directory-requires
+read_directory-requires c = record { eighty = (form_within c.args.bytes.now c.in_ok-cards.cards c.in_ok-cards.ensures.fixed_form).directory }
+
+pub returns-in_err-pairs-clause-refused : goal.returns-in_err-pairs-clause-refused
+returns-in_err-pairs-clause-refused c =
+    let p = err_from_is_err_and c.from_residual-in_err-pairs.result c.from_residual-in_err-pairs.ensures.1 in
+    let whole = rw c.as_slice.ensures at c.in_ok-global.ensures.found in
+    let first = rw c.len.ensures at c.in_err-pairs.ensures.first_fault in
+    rw (p.1, p.2) (directory_refused c.args.bytes.now c.in_ok-cards.cards c.in_ok-global.global c.in_err-pairs.field-0.0 c.in_ok-cards.ensures.fixed_form whole first)
+
+pub read_rows-requires-clause-few : goal.read_rows-requires-clause-few
+read_rows-requires-clause-few c =
+    few_pairs (length c.in_ok-cards.cards.params) c.in_ok-cards.cards.directory c.in_ok-pairs.pairs.items (rw c.len.ensures at c.in_ok-pairs.ensures.directory)
+
+pub read_rows-requires-clause-lines : goal.read_rows-requires-clause-lines
+read_rows-requires-clause-lines c =
+    all_have_lines (length c.in_ok-cards.cards.params) c.in_ok-cards.cards.directory c.in_ok-pairs.pairs.items (rw c.len.ensures at c.in_ok-pairs.ensures.directory)
+
+pub read_rows-requires-clause-wide : goal.read_rows-requires-clause-wide
+read_rows-requires-clause-wide c = (form_within c.args.bytes.now c.in_ok-cards.cards c.in_ok-cards.ensures.fixed_form).params
+
+pub returns-in_err-rows-clause-refused : goal.returns-in_err-rows-clause-refused
+returns-in_err-rows-clause-refused c =
+    let p = err_from_is_err_and c.from_residual-in_err-rows.result c.from_residual-in_err-rows.ensures.1 in
+    let whole = rw c.as_slice.ensures at c.in_ok-global.ensures.found in
+    let all = rw c.len.ensures at c.in_ok-pairs.ensures.directory in
+    rw (p.1, p.2) (rows_refused c.args.bytes.now c.in_ok-cards.cards c.in_ok-global.global c.in_ok-pairs.pairs.items c.in_err-rows.field-0.0 c.in_ok-cards.ensures.fixed_form whole all c.in_err-rows.ensures.first_fault)
+
+pub returns-then-branch-gt-MOST_LINES-clause-refused : goal.returns-then-branch-gt-MOST_LINES-clause-refused
+returns-then-branch-gt-MOST_LINES-clause-refused c =
+    let whole = rw c.as_slice.ensures at c.in_ok-global.ensures.found in
+    let all = rw c.len.ensures at c.in_ok-pairs.ensures.directory in
+    λ text. record {
+      cards = c.in_ok-cards.cards;
+      text = c.in_ok-global.global;
+      pairs = c.in_ok-pairs.pairs.items;
+      rows = c.in_ok-rows.rows;
+      form = c.in_ok-cards.ensures.fixed_form;
+      globals = whole;
+      directory = all;
+      entities = c.in_ok-rows.ensures.found;
+      many = omega (arith, c.in_ok-count_lines.ensures, c.if-branch-gt-MOST_LINES.true);
+    }
+
+pub returns-clause-reads : goal.returns-clause-reads
+returns-clause-reads c =
+    let whole = rw c.as_slice.ensures at c.in_ok-global.ensures.found in
+    let all = rw c.len.ensures at c.in_ok-pairs.ensures.directory in
+    record {
+      cards = c.in_ok-cards.cards;
+      pairs = c.in_ok-pairs.pairs.items;
+      form = c.in_ok-cards.ensures.fixed_form;
+      place = refl;
+      start = refl;
+      globals = whole;
+      directory = all;
+      entities = c.in_ok-rows.ensures.found;
+      few = omega (arith, c.in_ok-count_lines.ensures, c.if-branch-gt-MOST_LINES.false);
+    }

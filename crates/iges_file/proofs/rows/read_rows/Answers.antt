@@ -1,0 +1,20 @@
+use Rattle.std.proofs.Common.{◌≡◌, List, ◌∷◌, [], ◌++◌, ◌∙◌, rules, sym, ap, arith, append_assoc, length-append}
+use Rattle.iges_directory.specs.declared.pairs.Pair.{Pair}
+use Rattle.iges_file.specs.Entities.{IsWritable}
+use Rattle.iges_file.proofs.RowLoops.{entities_pushed, all_pushed}
+use Rattle.iges_file.proofs.rows.read_rows.Goals as goal
+
+pub loop-pair-preserved : goal.loop-pair-preserved
+loop-pair-preserved c =
+    let i = c.loop-pair.invariant in
+    let step : c.loop-pair.pair-iterator.rest.items ≡ c.in-Some.pair ∷ c.next.new.self.rest.items = search rules in
+    let lines = rw step at i.lines in
+    record {
+      can_next = tt;
+      is_finite = tt;
+      cut = i.cut ∙ ap (λ (ps : List Pair). c.loop-pair.yielded ++ ps) step ∙ sym (append_assoc c.loop-pair.yielded (c.in-Some.pair ∷ []) c.next.new.self.rest.items);
+      good = rw c.in_ok-push_entity-in-Ok.ensures (entities_pushed c.args.comma c.args.semi c.args.params.now c.loop-pair.yielded c.loop-pair.rows c.in-Some.pair c.in-Ok.entity i.good (rw c.as_slice.ensures at c.in-Ok.ensures.found));
+      count = omega (arith, i.count, length-append c.loop-pair.yielded (c.in-Some.pair ∷ []));
+      lines = lines.1;
+      writable = rw c.in_ok-push_entity-in-Ok.ensures (all_pushed IsWritable c.loop-pair.rows c.in-Ok.entity i.writable c.in-Ok.ensures.writable);
+    }

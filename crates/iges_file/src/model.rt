@@ -1,0 +1,48 @@
+ghost use Rattle.std.specs.Prelude.{◌≡◌, ◌≤◌, ◌^◌, length, IfOk, IfErr};
+ghost use Rattle.std.specs.List.{AllByRecursion};
+ghost use Rattle.iges_file.specs.Faults.{IsOfText, IsOuter};
+ghost use Rattle.iges_file.specs.Entities.{IsWritable};
+ghost use Rattle.iges_file.specs.Files.{Reads, Refused};
+
+use crate::faults::FileFault;
+use crate::rows::{count_lines, read_rows};
+use iges_cards::read_cards;
+use iges_directory::{read_directory, read_global};
+use solid_base::Model;
+use std::alloc::Global;
+
+/// How many lines the records of a model may take.
+const MOST_LINES: u64 = 300_000;
+
+/// Reads a file in the fixed form, of at most 2^25 bytes: its model, and the place behind its terminate
+/// line, behind which nothing is read.
+///
+/// The row at place i is that of the entity with the number 2i + 1. Entities of types and forms that
+/// aren't read keep their records. References between entities aren't looked at yet.
+///
+/// The first fault is told: that of the lines; of the global section; of the directory; BadRow, with the
+/// number of the first entity whose record has a fault and that fault; TooManyLines, where the records
+/// would take more than 300,000 lines. Memory comes where memory is wanting.
+pub fn read_model(alloc: Global, bytes: &[u8]) -> Result<(Model, usize), FileFault>
+    requires { length bytes.now ≤ 2 ^ 25 }
+    ensures reads { IfOk result (λ read. Reads bytes.now read.0 read.1) }
+    ensures rows { IfOk result (λ read. AllByRecursion IsWritable read.0.rows) }
+    ensures outer { IfErr result IsOuter }
+    ensures refused { IfErr result (λ fault. IsOfText fault → Refused bytes.now fault) }
+{
+    let cards = read_cards(alloc, bytes)?;
+    let global = read_global(alloc, cards.global.as_slice())?;
+    let pairs = read_directory(alloc, &cards.directory, cards.params.len() as u32)?;
+    let rows = read_rows(alloc, global.comma, global.semi, &cards.params, pairs)?;
+    if count_lines(alloc, global.comma, global.semi, &rows)? > MOST_LINES {
+        return Err(FileFault::TooManyLines);
+    }
+    let model = Model {
+        start: cards.start,
+        comma: global.comma,
+        semi: global.semi,
+        global: global.tokens,
+        rows,
+    };
+    Ok((model, cards.end))
+}

@@ -1,0 +1,74 @@
+ghost use Rattle.std.specs.Prelude.{◌≡◌, ◌<◌, ◌≤◌, ◌+◌, ◌*◌, ◌^◌, ◌++◌, ◌∷◌, [], length, Ok, Err, IfOk, IfErr, OnOk};
+ghost use Rattle.std.specs.List.{AllByRecursion};
+ghost use Rattle.iges_fields.specs.Delimiters.{AreDelimiters};
+ghost use Rattle.iges_file.specs.Entities.{AreEntities, HasLines, IsWritable, IsRowsFault, lines_of};
+ghost use Rattle.iges_file.specs.Faults.{of_row, IsOuter};
+
+use crate::entities::read_entity;
+use crate::faults::FileFault;
+use iges_directory::Pair;
+use iges_parameters::{RowFault, row_line_count};
+use solid_base::{Entity, Lines, Rows};
+use std::alloc::{AllocError, Global};
+use std::sync::Arc;
+
+/// The fault of an entity's record as a fault of the file.
+fn of_row(entity: u32, fault: RowFault) -> FileFault
+    ensures value { result ≡ of_row entity fault }
+    ensures outer { IsOuter result }
+{
+    match fault {
+        RowFault::Memory(e) => FileFault::Memory(e),
+        other => FileFault::BadRow(entity, other),
+    }
+}
+
+fn push_entity(alloc: Global, rows: &mut Rows, entity: Entity) -> Result<(), AllocError>
+    ensures { OnOk result (rows.new ≡ rows.old ++ entity ∷ []) }
+{
+    rows.push(Arc::new(alloc, entity)?)
+}
+
+/// The entities of a file's entries, with these parameter lines. BadRow where a record has a fault, with
+/// the first entity of which it has.
+pub fn read_rows(
+    alloc: Global,
+    comma: u8,
+    semi: u8,
+    params: &Lines,
+    pairs: Vec<Pair>,
+) -> Result<Rows, FileFault>
+    requires few { length pairs.items ≤ 100000 }
+    requires lines { AllByRecursion (HasLines (length params.now)) pairs.items }
+    requires wide { AllByRecursion (λ line. length line ≡ 64) params.now }
+    requires delimiters { AreDelimiters comma semi }
+    ensures found { IfOk result (AreEntities comma semi params.now pairs.items) }
+    ensures first_fault { IfErr result (IsRowsFault comma semi params.now pairs.items) }
+    ensures writable { IfOk result (AllByRecursion IsWritable) }
+    ensures outer { IfErr result IsOuter }
+{
+    let mut rows = Rows::new(alloc);
+    let mut number = 1;
+    for pair in pairs {
+        match read_entity(alloc, comma, semi, params.as_slice(), pair) {
+            Ok(entity) => push_entity(alloc, &mut rows, entity)?,
+            Err(fault) => return Err(of_row(number, fault)),
+        }
+        number += 2;
+    }
+    Ok(rows)
+}
+
+/// How many lines of 64 columns the records of entities take where they are written.
+pub fn count_lines(alloc: Global, comma: u8, semi: u8, rows: &Rows) -> Result<u64, AllocError>
+    requires writable { AllByRecursion IsWritable rows.now }
+    requires delimiters { AreDelimiters comma semi }
+    ensures { IfOk result (λ n. n ≡ lines_of comma semi rows.now) }
+{
+    let mut count: u64 = 0;
+    for at in 0..rows.len() {
+        let lines = row_line_count(alloc, rows.get(at), comma, semi)?;
+        count = count.checked_add(lines).ok_or(AllocError)?;
+    }
+    Ok(count)
+}
