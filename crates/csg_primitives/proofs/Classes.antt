@@ -7,13 +7,13 @@ use Rattle.std.proofs.lemmas.List.Folds.{Any-from_list_any, list_any-from_Any}
 use Rattle.solid_base.specs.declared.classes.Class.TheVariants.{Outside, Mixed, Inside}
 use Rattle.csg_primitives.specs.Classes.{is_positive, is_negative, exact_class}
 
-positive_in : (m : ℤ) → pos 0 <ℤ m → is_positive m ≡ true
+pub positive_in : (m : ℤ) → pos 0 <ℤ m → is_positive m ≡ true
 positive_in m h = grind (arith, ints)
 
 positive_out : (m : ℤ) → is_positive m ≡ true → pos 0 <ℤ m
 positive_out m h = grind (arith, ints)
 
-negative_in : (m : ℤ) → m <ℤ pos 0 → is_negative m ≡ true
+pub negative_in : (m : ℤ) → m <ℤ pos 0 → is_negative m ≡ true
 negative_in m h = grind (arith, ints)
 
 negative_out : (m : ℤ) → is_negative m ≡ true → m <ℤ pos 0
@@ -40,6 +40,13 @@ some_excludes_all false true some all h k e = k e
 not_all : (margins : List ℤ) → list_any is_negative margins ≡ true → list_all is_positive margins ≡ false
 not_all [] e = cc
 not_all (m ∷ margins) e = some_excludes_all (is_negative m) (is_positive m) (list_any is_negative margins) (list_all is_positive margins) (negative_not_positive m) (not_all margins) e
+
+-- the class by two tests
+pub exact_inside : (margins : List ℤ) → list_all is_positive margins ≡ true → exact_class margins ≡ Inside
+exact_inside margins e = rw e refl
+
+pub exact_outside : (margins : List ℤ) → list_any is_negative margins ≡ true → exact_class margins ≡ Outside
+exact_outside margins e = rw (not_all margins e, e) refl
 
 pub exact_class-inside : (margins : List ℤ) → (exact_class margins ≡ Inside) ↔ All (λ m. pos 0 <ℤ m) margins
 exact_class-inside margins = (

@@ -1,2 +1,7 @@
 pub mod Classes
 pub mod Margins
+pub mod Frames
+pub mod ExactMargins
+pub mod WrittenFrames
+pub mod WrittenMargins
+pub mod Sharpness

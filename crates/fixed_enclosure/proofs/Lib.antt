@@ -1,0 +1,10 @@
+pub mod Words
+pub mod Spans
+pub mod SpanSums
+pub mod SpanProducts
+pub mod SpanQuotients
+pub mod SpanSigns
+pub mod WholeRoots
+pub mod SpanRoots
+pub mod Newton
+pub mod StandardFacts

@@ -1,0 +1,21 @@
+use Rattle.std.proofs.Common.{arith}
+use Rattle.solid_base.proofs.Ring.{code}
+use Rattle.fixed_enclosure.specs.Values.{minus_of}
+use Rattle.fixed_enclosure.proofs.Words.{gap_back}
+use Rattle.fixed_enclosure.proofs.sums.area_minus.Goals as goal
+
+pub area_bounded-requires : goal.area_bounded-requires
+area_bounded-requires c =
+    let a = rw c.in-Span-Span.is-0 at c.requires.a_within in
+    let b = rw c.in-Span-Span.is-1 at c.requires.b_within in
+    record { in_order = omega (arith, code) }
+
+pub returns-in-Span-Span-clause-value : goal.returns-in-Span-Span-clause-value
+unfolding minus_of
+returns-in-Span-Span-clause-value c =
+    let s = c.in-Span-Span in
+    let a = rw s.is-0 at c.requires.a_within in
+    let b = rw s.is-1 at c.requires.b_within in
+    let low = gap_back s.a_lo s.b_hi a.1 b.2 in
+    let high = gap_back s.a_hi s.b_lo a.2 b.1 in
+    rw (s.is-0, s.is-1) (rw (low, high) at c.area_bounded.ensures.value)
