@@ -1,13 +1,13 @@
 pub mod AnswerLaws
-pub mod FileLaws
-pub mod FormLaws
-pub mod NearLaws
+pub mod CheckLaws
+pub mod Deciding
 pub mod Numbers
 pub mod PlainLaws
 pub mod PointLaws
 pub mod Reading
 pub mod ReadingLaws
 pub mod ReplayLaws
+pub mod RowLaws
 pub mod RunLaws
 pub mod StepLaws
 pub mod Strips

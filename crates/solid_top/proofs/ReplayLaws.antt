@@ -1,27 +1,29 @@
 -- A replay has one answer.
-use Rattle.std.proofs.Common.{◌≡◌, ℕ, List, [], ◌∷◌, ◌++◌, length, codes, decimal, Result, Ok, Err, IfOk, ap, sym, subst, refl, ◌∙◌, arith, append_assoc, append-nil, map}
-use Rattle.std.specs.List.{flat_map}
+use Rattle.std.proofs.Common.{◌≡◌, ◌⊎◌, inl, inr, ℕ, ◌+◌, ◌≤◌, List, [], ◌∷◌, ◌++◌, length, drop, codes, decimal, Result, Ok, Err, IfOk, ap, sym, subst, refl, ◌∙◌, arith, append-nil, append_assoc, length-append, min}
 use Rattle.std.proofs.lemmas.Fmt.{decimal_digit}
-use Rattle.std.proofs.lemmas.List.{length-map}
 use Rattle.std.specs.declared.alloc.AllocError.{AllocError}
+use Rattle.solid_base.specs.declared.entities.Model.{Model}
 use Rattle.solid_base.specs.declared.replies.Reply.{Reply}
 use Rattle.solid_base.specs.Series.{Spells}
 use Rattle.solid_base.proofs.SeriesLaws.{series_same}
+use Rattle.iges_file.specs.declared.faults.FileFault.{FileFault}
+use Rattle.iges_file.specs.Files.{Reads, Refused}
+use Rattle.iges_file.proofs.OneOutcome.{one_of_both, reads_once, first_fault, never_both}
 use Rattle.solid_top.specs.declared.faults.TopFault.TheVariants as fault
 use Rattle.solid_top.specs.declared.questions.PointQuestion.{PointQuestion}
 use Rattle.solid_top.specs.declared.replay.Output.{Output}
-use Rattle.solid_top.specs.declared.spheres.Sphere.{Sphere}
 use Rattle.solid_top.specs.declared.statuses.Status.{Status}
 use Rattle.solid_top.specs.declared.statuses.Status.TheVariants as status
-use Rattle.solid_top.specs.Answers.{reply_to, replay_text}
-use Rattle.solid_top.specs.FirstForm.{IsFile, IsFirstForm}
+use Rattle.solid_top.specs.Answers.{replay_text, evaluations}
 use Rattle.solid_top.specs.FormReading.{point_at}
-use Rattle.solid_top.specs.Output.{reply_text, session_text, output_text}
+use Rattle.solid_top.specs.Ledgers.{Counts, most_count}
+use Rattle.solid_top.specs.Models.{AreBuilt, Asks, IsReplay, IsNotBuilt}
+use Rattle.solid_top.specs.Output.{session_text, output_text}
 use Rattle.solid_top.specs.Points.{IsPointLine}
-use Rattle.solid_top.specs.Replay.{IsReplayed, IsNoFirstForm}
+use Rattle.solid_top.specs.Replay.{IsReplayed}
 use Rattle.solid_top.specs.TopFaults.{refused_text}
 use Rattle.solid_top.proofs.AnswerLaws.{nothing_read}
-use Rattle.solid_top.proofs.FormLaws.{file_unique}
+use Rattle.solid_top.proofs.Deciding.{AsksFrom, built_or_not, asks_or_not}
 use Rattle.solid_top.proofs.PointLaws.{point_reader}
 
 -- the text of a run without commits in which session 1 alone has lines, by its parts
@@ -33,70 +35,120 @@ output_joined all one two three a b c =
     ∙ ap (λ t. codes "LOG 0\n" ++ (t ++ codes "END\n")) (sym (append-nil (session_text 1 all)))
     ∙ ap (λ t. codes "LOG " ++ (t ++ (codes "\n" ++ ((session_text 1 all ++ []) ++ codes "END\n")))) (sym zero_text)
 
--- bytes are of the first form for one list of spheres and one list of questions
-pub first_form_unique : (bytes : List ℕ) (spheres spheres' : List Sphere) (questions questions' : List PointQuestion) → IsFirstForm bytes spheres questions → IsFirstForm bytes spheres' questions'
-    → (spheres ≡ spheres') × (questions ≡ questions')
-first_form_unique bytes spheres spheres' questions questions' form form' =
-    let (same, scripts) = file_unique bytes spheres spheres' form.script form'.script form.file form'.file in
-    let (lines, end) = series_same IsPointLine (λ k. point_at) point_reader 0 form.script form'.script [] [] questions questions' form.lines form'.lines (ap (λ t. t ++ []) scripts) nothing_read nothing_read in
-    (same, lines)
+-- bytes ask one list of questions
+asked_once : (script : List ℕ) (questions asked : List PointQuestion) → Spells IsPointLine 0 script questions → Spells IsPointLine 0 script asked → questions ≡ asked
+asked_once script questions asked h k =
+    let (lines, end) = series_same IsPointLine (λ k. point_at) point_reader 0 script script [] [] questions asked h k refl nothing_read nothing_read in
+    lines
 
-pub no_form_file : (bytes : List ℕ) → ((spheres : List Sphere) (script : List ℕ) → IsFile bytes spheres script → ⊥) → IsNoFirstForm bytes
-no_form_file bytes none spheres questions form = none spheres form.script form.file
+-- bytes are a file of one model and ask one list of questions
+pub replay_once : (bytes : List ℕ) (model other : Model) (questions asked : List PointQuestion) → IsReplay bytes model questions → IsReplay bytes other asked → (model ≡ other) × (questions ≡ asked)
+replay_once bytes model other questions asked h k =
+    let (same, end) = reads_once bytes model other h.end k.end h.reads k.reads in
+    (same, asked_once (drop h.end bytes) questions asked h.lines (subst (λ (n : ℕ). Asks bytes n asked) (sym end) k.lines))
 
-pub no_form_script : (bytes : List ℕ) (spheres : List Sphere) (script : List ℕ) → IsFile bytes spheres script → ((questions : List PointQuestion) → Spells IsPointLine 0 script questions → ⊥) → IsNoFirstForm bytes
-no_form_script bytes spheres script file none spheres' questions form =
-    let (same, scripts) = file_unique bytes spheres' spheres form.script script form.file file in
-    none questions (subst (λ (t : List ℕ). Spells IsPointLine 0 t questions) scripts form.lines)
+replay_not_wrong : (bytes : List ℕ) (model : Model) (questions : List PointQuestion) → IsReplay bytes model questions → IsNotBuilt bytes → ⊥
+replay_not_wrong bytes model questions h w =
+    let (same, end) = reads_once bytes model w.model h.end w.end h.reads w.reads in
+    w.wrong (subst (λ (m : Model). AreBuilt m.rows) same h.built) questions (subst (λ (n : ℕ). Asks bytes n questions) end h.lines)
 
--- a refusal as NotBuilt
-pub refused_replayed : (r : Result Output AllocError) (bytes : List ℕ) → IsNoFirstForm bytes → IfOk r (λ out. out.status ≡ status.Refused) → IfOk r (λ out. out.text ≡ refused_text fault.NotBuilt)
+-- a replay that is answered is not refused
+done_not_refused : (bytes text other : List ℕ) → IsReplayed bytes status.Done text → IsReplayed bytes status.Refused other → ⊥
+done_not_refused bytes text other (model, questions, h, t) (inl (f, refused, e)) = never_both bytes model h.end f h.reads refused
+done_not_refused bytes text other (model, questions, h, t) (inr (w, e)) = replay_not_wrong bytes model questions h w
+
+refused_once : (bytes text other : List ℕ) → IsReplayed bytes status.Refused text → IsReplayed bytes status.Refused other → text ≡ other
+refused_once bytes text other (inl (f, refused, e)) (inl (g, refused', e')) = e ∙ ap (λ (k : FileFault). refused_text (fault.File k)) (first_fault bytes f g refused refused') ∙ sym e'
+refused_once bytes text other (inl (f, refused, e)) (inr (w, e')) = absurd (never_both bytes w.model w.end f w.reads refused)
+refused_once bytes text other (inr (w, e)) (inl (f, refused, e')) = absurd (never_both bytes w.model w.end f w.reads refused)
+refused_once bytes text other (inr (w, e)) (inr (w', e')) = e ∙ sym e'
+
+done_once : (bytes text other : List ℕ) → IsReplayed bytes status.Done text → IsReplayed bytes status.Done other → text ≡ other
+done_once bytes text other (model, questions, h, t) (model', questions', h', t') =
+    let (same, lines) = replay_once bytes model model' questions questions' h h' in
+    t ∙ ap (λ (m : Model). replay_text m.rows questions) same ∙ ap (λ (q : List PointQuestion). replay_text model'.rows q) lines ∙ sym t'
+
+-- a replay of bytes answers one status and one text
+pub replayed_once : (bytes : List ℕ) (s t : Status) (a b : List ℕ) → IsReplayed bytes s a → IsReplayed bytes t b → (s ≡ t) × (a ≡ b)
+replayed_once bytes status.Done status.Done a b h k = (refl, done_once bytes a b h k)
+replayed_once bytes status.Done status.Refused a b h k = absurd (done_not_refused bytes a b h k)
+replayed_once bytes status.Refused status.Done a b h k = absurd (done_not_refused bytes b a k h)
+replayed_once bytes status.Refused status.Refused a b h k = (refl, refused_once bytes a b h k)
+replayed_once bytes status.Done status.Usage a b h k = absurd k
+replayed_once bytes status.Done status.Memory a b h k = absurd k
+replayed_once bytes status.Done status.ReadFault a b h k = absurd k
+replayed_once bytes status.Done status.WriteFault a b h k = absurd k
+replayed_once bytes status.Done status.TooLong a b h k = absurd k
+replayed_once bytes status.Refused status.Usage a b h k = absurd k
+replayed_once bytes status.Refused status.Memory a b h k = absurd k
+replayed_once bytes status.Refused status.ReadFault a b h k = absurd k
+replayed_once bytes status.Refused status.WriteFault a b h k = absurd k
+replayed_once bytes status.Refused status.TooLong a b h k = absurd k
+replayed_once bytes status.Usage t a b h k = absurd h
+replayed_once bytes status.Memory t a b h k = absurd h
+replayed_once bytes status.ReadFault t a b h k = absurd h
+replayed_once bytes status.WriteFault t a b h k = absurd h
+replayed_once bytes status.TooLong t a b h k = absurd h
+
+-- what a replay answers to a file
+file_replayed : (bytes : List ℕ) (model : Model) (end : ℕ) → Reads bytes model end → AreBuilt model.rows ⊎ (AreBuilt model.rows → ⊥) → AsksFrom 0 (drop end bytes) ⊎ (AsksFrom 0 (drop end bytes) → ⊥)
+    → (s : Status) × (text : List ℕ) × IsReplayed bytes s text
+file_replayed bytes model end reads (inl built) (inl (questions, lines)) =
+    (status.Done, replay_text model.rows questions, (model, questions, record { end = end; reads = reads; built = built; lines = lines }, refl))
+file_replayed bytes model end reads (inl built) (inr never) =
+    (status.Refused, refused_text fault.NotBuilt, inr (record { model = model; end = end; reads = reads; wrong = λ b questions lines. never (questions, lines) }, refl))
+file_replayed bytes model end reads (inr never) asks =
+    (status.Refused, refused_text fault.NotBuilt, inr (record { model = model; end = end; reads = reads; wrong = λ b questions lines. never b }, refl))
+
+bytes_replayed : (bytes : List ℕ) → ((model : Model) × (end : ℕ) × Reads bytes model end) ⊎ ((f : FileFault) × Refused bytes f) → (s : Status) × (text : List ℕ) × IsReplayed bytes s text
+bytes_replayed bytes (inl (model, end, reads)) = file_replayed bytes model end reads (built_or_not model.rows) (asks_or_not (drop end bytes))
+bytes_replayed bytes (inr (f, refused)) = (status.Refused, refused_text (fault.File f), inl (f, refused, refl))
+
+-- a replay of any bytes answers something
+pub replayed_some : (bytes : List ℕ) → (s : Status) × (text : List ℕ) × IsReplayed bytes s text
+replayed_some bytes = bytes_replayed bytes (one_of_both bytes)
+
+-- ---- what code gives
+
+pub replayed_only : (r : Result Output AllocError) (bytes : List ℕ) (s : Status) (text : List ℕ) → IfOk r (λ out. IsReplayed bytes out.status out.text) → IsReplayed bytes s text
+    → IfOk r (λ out. (out.status ≡ s) × (out.text ≡ text))
+replayed_only (Ok out) bytes s text h k = replayed_once bytes out.status s out.text text h k
+replayed_only (Err e) bytes s text h k = tt
+
+-- how often primitives were evaluated
+pub replayed_ticks : (r : Result Output AllocError) (bytes : List ℕ) (old new : ℕ) (model : Model) (questions : List PointQuestion) → IfOk r (λ out. IsReplayed bytes out.status out.text)
+    → IfOk r (λ out. out.status ≡ status.Done → (model : Model) × (questions : List PointQuestion) × IsReplay bytes model questions × Counts old new (evaluations model.rows questions))
+    → IsReplay bytes model questions → old ≤ most_count → IfOk r (λ out. new ≡ min (old + evaluations model.rows questions) most_count)
+replayed_ticks (Ok out) bytes old new model questions h counted is least =
+    let (done, text) = replayed_once bytes out.status status.Done out.text (replay_text model.rows questions) h (model, questions, is, refl) in
+    let (model', questions', is', ticks) = counted done in
+    let (same, lines) = replay_once bytes model' model questions' questions is' is in
+    ticks least ∙ ap (λ (m : Model). min (old + evaluations m.rows questions') most_count) same ∙ ap (λ (q : List PointQuestion). min (old + evaluations model.rows q) most_count) lines
+replayed_ticks (Err e) bytes old new model questions h counted is least = tt
+
+-- the bytes are refused as a file
+pub file_refused : (r : Result Output AllocError) (bytes : List ℕ) (f : FileFault) → Refused bytes f → IfOk r (λ out. out.status ≡ status.Refused) → IfOk r (λ out. out.text ≡ refused_text (fault.File f))
     → IfOk r (λ out. IsReplayed bytes out.status out.text)
-refused_replayed (Ok out) bytes none s t = subst (λ (v : Status). IsReplayed bytes v out.text) (sym s) (none, t)
-refused_replayed (Err e) bytes none s t = tt
+file_refused (Ok out) bytes f h s t = subst (λ (v : Status). IsReplayed bytes v out.text) (sym s) (inl (f, h, t))
+file_refused (Err e) bytes f h s t = tt
 
--- what a replay answers to bytes in the first form
-pub done_case : (bytes text : List ℕ) (s : Status) (spheres : List Sphere) (questions : List PointQuestion) → IsReplayed bytes s text → IsFirstForm bytes spheres questions
-    → (s ≡ status.Done) × (text ≡ replay_text spheres questions)
-done_case bytes text status.Done spheres questions r form =
-    let (spheres', questions', form', t) = r in
-    let (rows, lines) = first_form_unique bytes spheres' spheres questions' questions form' form in
-    (refl, t ∙ ap (λ k. replay_text k questions') rows ∙ ap (λ k. replay_text spheres k) lines)
-done_case bytes text status.Refused spheres questions r form = absurd (r.0 spheres questions form)
-done_case bytes text status.Usage spheres questions r form = absurd r
-done_case bytes text status.Memory spheres questions r form = absurd r
-done_case bytes text status.ReadFault spheres questions r form = absurd r
-done_case bytes text status.WriteFault spheres questions r form = absurd r
-done_case bytes text status.TooLong spheres questions r form = absurd r
+-- a row isn't answered, or a line asks no question
+pub not_built : (r : Result Output AllocError) (bytes : List ℕ) (model : Model) (end : ℕ) → Reads bytes model end → (AreBuilt model.rows → (questions : List PointQuestion) → Asks bytes end questions → ⊥)
+    → IfOk r (λ out. out.status ≡ status.Refused) → IfOk r (λ out. out.text ≡ refused_text fault.NotBuilt) → IfOk r (λ out. IsReplayed bytes out.status out.text)
+not_built (Ok out) bytes model end reads wrong s t =
+    subst (λ (v : Status). IsReplayed bytes v out.text) (sym s) (inr (record { model = model; end = end; reads = reads; wrong = wrong }, t))
+not_built (Err e) bytes model end reads wrong s t = tt
 
-pub replayed_done : (r : Result Output AllocError) (bytes : List ℕ) (spheres : List Sphere) (questions : List PointQuestion) → IfOk r (λ out. IsReplayed bytes out.status out.text) → IsFirstForm bytes spheres questions
-    → IfOk r (λ out. (out.status ≡ status.Done) × (out.text ≡ replay_text spheres questions))
-replayed_done (Ok out) bytes spheres questions h form = done_case bytes out.text out.status spheres questions h form
-replayed_done (Err e) bytes spheres questions h form = tt
+-- a refused replay isn't done
+pub not_done : (P : Type 0) (r : Result Output AllocError) → IfOk r (λ out. out.status ≡ status.Refused) → IfOk r (λ out. out.status ≡ status.Done → P)
+not_done P (Ok out) s = λ d. (let bad : status.Refused ≡ status.Done = sym s ∙ d in cc)
+not_done P (Err e) s = tt
 
--- what a replay answers to other bytes
-pub refused_case : (bytes text : List ℕ) (s : Status) → IsReplayed bytes s text → IsNoFirstForm bytes → (s ≡ status.Refused) × (text ≡ refused_text fault.NotBuilt)
-refused_case bytes text status.Done r none = let (spheres, questions, form, t) = r in absurd (none spheres questions form)
-refused_case bytes text status.Refused r none = (refl, r.1)
-refused_case bytes text status.Usage r none = absurd r
-refused_case bytes text status.Memory r none = absurd r
-refused_case bytes text status.ReadFault r none = absurd r
-refused_case bytes text status.WriteFault r none = absurd r
-refused_case bytes text status.TooLong r none = absurd r
+-- ---- rows
 
-pub replayed_refused : (r : Result Output AllocError) (bytes : List ℕ) → IfOk r (λ out. IsReplayed bytes out.status out.text) → IsNoFirstForm bytes
-    → IfOk r (λ out. (out.status ≡ status.Refused) × (out.text ≡ refused_text fault.NotBuilt))
-replayed_refused (Ok out) bytes h none = refused_case bytes out.text out.status h none
-replayed_refused (Err e) bytes h none = tt
-
--- the answers to a file and its script
-pub answered : (bytes script old new replies text : List ℕ) (spheres lent : List Sphere) (count : ℕ) → IsFile bytes spheres script → lent ≡ spheres → old ≡ [] → replies ≡ new
-    → (questions : List PointQuestion) × Spells IsPointLine 0 script questions × (count ≡ length questions) × (new ≡ old ++ flat_map reply_text (map (reply_to lent) questions))
-    → ((all : List Reply) → count ≡ length all → replies ≡ flat_map reply_text all → text ≡ output_text [] ([] ∷ all ∷ []))
-    → (spheres : List Sphere) × (questions : List PointQuestion) × IsFirstForm bytes spheres questions × (text ≡ replay_text spheres questions)
-answered bytes script old new replies text spheres lent count file l o r found output =
-    let (questions, lines, counted, written) = found in
-    let all = map (reply_to spheres) questions in
-    let long : count ≡ length all = counted ∙ sym (length-map questions (reply_to spheres)) in
-    let joined : replies ≡ flat_map reply_text all = r ∙ written ∙ ap (λ t. t ++ flat_map reply_text (map (reply_to lent) questions)) o ∙ ap (λ k. flat_map reply_text (map (reply_to k) questions)) l in
-    (spheres, questions, record { script = script; file = file; lines = lines }, output all long joined)
+-- where a file ends is a place in its bytes
+pub end_within : (bytes : List ℕ) (model : Model) (end : ℕ) → Reads bytes model end → end ≤ length bytes
+end_within bytes model end h =
+    let f = h.form in
+    let whole = ap (λ (t : List ℕ). length t) f.spelt in
+    omega (arith, h.place, f.end, whole, length-append f.sections_text (f.terminate_text ++ f.rest), length-append f.terminate_text f.rest)

@@ -1,20 +1,14 @@
 -- How a run ends, from how it writes.
-use Rattle.std.proofs.Common.{◌≡◌, ◌≢◌, ◌⊎◌, inl, inr, ℕ, ◌<◌, ◌≤◌, List, [], ◌++◌, length, Option, None, Some, ap, sym, subst, refl, ◌∙◌, arith, append-nil, length-append, true, false, Bool, IsTrue}
+use Rattle.std.proofs.Common.{◌≡◌, ◌≢◌, ◌⊎◌, inl, inr, ℕ, ◌<◌, ◌≤◌, List, [], ◌∷◌, ◌++◌, length, Option, None, Some, ap, sym, subst, refl, ◌∙◌, arith, append-nil, length-append}
 use Rattle.std.specs.Io.KnownBytes.{Appends, Consumes, Keeps}
 use Rattle.solid_io.specs.Causes.{Rose}
-use Rattle.solid_top.specs.declared.faults.TopFault.TheVariants as fault
-use Rattle.solid_top.specs.declared.questions.PointQuestion.{PointQuestion}
-use Rattle.solid_top.specs.declared.spheres.Sphere.{Sphere}
+use Rattle.solid_top.specs.declared.commands.Command.{Command}
+use Rattle.solid_top.specs.declared.commands.Command.TheVariants as command
 use Rattle.solid_top.specs.declared.statuses.Status.{Status}
 use Rattle.solid_top.specs.declared.statuses.Status.TheVariants as status
-use Rattle.solid_top.specs.Answers.{replay_text}
-use Rattle.solid_top.specs.Commands.{IsCommand, too_long_text}
-use Rattle.solid_top.specs.FirstForm.{IsFirstForm}
-use Rattle.solid_top.specs.Replay.{IsReplayed, IsNoFirstForm}
+use Rattle.solid_top.specs.Commands.{word_of, Names, IsCommand, Answers, too_long_text}
 use Rattle.solid_top.specs.Run.{IsInput, Comes, Finishes, Ends, GoesWell, IsWritten}
 use Rattle.solid_top.specs.Streams.{most_bytes}
-use Rattle.solid_top.specs.TopFaults.{refused_text}
-use Rattle.solid_top.proofs.ReplayLaws.{done_case, refused_case}
 
 module _ (words : List (List ℕ)) (left left' : Option (List ℕ)) (reads reads' : ℕ) (held held' : Option (List ℕ)) (writes writes' : ℕ) where
   abbrev EndsAs : Status → Type 0
@@ -37,23 +31,28 @@ module _ (words : List (List ℕ)) (left left' : Option (List ℕ)) (reads reads
         | inr failed ↦ (let (same, rose, front) = failed in subst EndsAs (sym same) (rose, (s, text, c, front)))
       ]
 
-  -- the answers to an input that was read
-  pub comes_replayed : (bytes : List ℕ) (s : Status) (text : List ℕ) → IsCommand words → IsInput left left' bytes → IsReplayed bytes s text → Comes words left left' s text
-  comes_replayed bytes status.Done text command input r = (command, (bytes, input, r))
-  comes_replayed bytes status.Refused text command input r = (command, (bytes, input, r))
-  comes_replayed bytes status.Usage text command input r = absurd r
-  comes_replayed bytes status.Memory text command input r = absurd r
-  comes_replayed bytes status.ReadFault text command input r = absurd r
-  comes_replayed bytes status.WriteFault text command input r = absurd r
-  comes_replayed bytes status.TooLong text command input r = absurd r
+  -- the answer to an input that was read
+  pub comes_answered : (c : Command) (bytes : List ℕ) (s : Status) (text : List ℕ) → Names words c → IsInput left left' bytes → Answers c bytes s text → Comes words left left' s text
+  comes_answered c bytes status.Done text named input h = record { named = c; words_are = named; bytes = bytes; input = input; answers = h }
+  comes_answered c bytes status.Refused text named input h = record { named = c; words_are = named; bytes = bytes; input = input; answers = h }
+  comes_answered command.Check bytes status.Usage text named input h = absurd h
+  comes_answered command.Check bytes status.Memory text named input h = absurd h
+  comes_answered command.Check bytes status.ReadFault text named input h = absurd h
+  comes_answered command.Check bytes status.WriteFault text named input h = absurd h
+  comes_answered command.Check bytes status.TooLong text named input h = absurd h
+  comes_answered command.Replay bytes status.Usage text named input h = absurd h
+  comes_answered command.Replay bytes status.Memory text named input h = absurd h
+  comes_answered command.Replay bytes status.ReadFault text named input h = absurd h
+  comes_answered command.Replay bytes status.WriteFault text named input h = absurd h
+  comes_answered command.Replay bytes status.TooLong text named input h = absurd h
 
   -- an input that was read is answered, or memory was wanting
-  pub answered : (bytes : List ℕ) (result : Status) → IsCommand words → IsInput left left' bytes
-      → ((result ≡ status.Memory) × Keeps held held') ⊎ ((s : Status) × (text : List ℕ) × IsReplayed bytes s text × Finishes held held' writes writes' s text result) → EndsAs result
-  answered bytes result command input h =
+  pub answered : (c : Command) (bytes : List ℕ) (result : Status) → Names words c → IsInput left left' bytes
+      → ((result ≡ status.Memory) × Keeps held held') ⊎ ((s : Status) × (text : List ℕ) × Answers c bytes s text × Finishes held held' writes writes' s text result) → EndsAs result
+  answered c bytes result named input h =
       elim h [
-        | inl memory ↦ (let (same, kept) = memory in subst EndsAs (sym same) (command, (bytes, input.read), kept))
-        | inr done ↦ (let (s, text, r, f) = done in finished s result text (comes_replayed bytes s text command input r) f)
+        | inl memory ↦ (let (same, kept) = memory in subst EndsAs (sym same) ((c, named), (bytes, input.read), kept))
+        | inr done ↦ (let (s, text, r, f) = done in finished s result text (comes_answered c bytes s text named input r) f)
       ]
 
   -- ---- what follows
@@ -70,8 +69,8 @@ module _ (words : List (List ℕ)) (left left' : Option (List ℕ)) (reads reads
 
   pub usage_else : (result : Status) → EndsAs result → result ≢ status.WriteFault → (IsCommand words → ⊥) → result ≡ status.Usage
   usage_else status.Usage e ok none = refl
-  usage_else status.Done e ok none = absurd (none e.1.0)
-  usage_else status.Refused e ok none = absurd (none e.1.0)
+  usage_else status.Done e ok none = absurd (none (e.1.named, e.1.words_are))
+  usage_else status.Refused e ok none = absurd (none (e.1.named, e.1.words_are))
   usage_else status.Memory e ok none = absurd (none e.0)
   usage_else status.ReadFault e ok none = absurd (none e.0)
   usage_else status.WriteFault e ok none = absurd (ok refl)
@@ -79,8 +78,8 @@ module _ (words : List (List ℕ)) (left left' : Option (List ℕ)) (reads reads
 
   unread_case : (s : Status) (text : List ℕ) → Comes words left left' s text → (IsCommand words → ⊥) → Keeps left left'
   unread_case status.Usage text c none = c.1
-  unread_case status.Done text c none = absurd (none c.0)
-  unread_case status.Refused text c none = absurd (none c.0)
+  unread_case status.Done text c none = absurd (none (c.named, c.words_are))
+  unread_case status.Refused text c none = absurd (none (c.named, c.words_are))
   unread_case status.Memory text c none = absurd c
   unread_case status.ReadFault text c none = absurd c
   unread_case status.WriteFault text c none = absurd c
@@ -89,8 +88,8 @@ module _ (words : List (List ℕ)) (left left' : Option (List ℕ)) (reads reads
   -- nothing is read where the words are no command
   pub unread : (result : Status) → EndsAs result → (IsCommand words → ⊥) → Keeps left left'
   unread status.Usage e none = unread_case status.Usage e.0 e.1 none
-  unread status.Done e none = absurd (none e.1.0)
-  unread status.Refused e none = absurd (none e.1.0)
+  unread status.Done e none = absurd (none (e.1.named, e.1.words_are))
+  unread status.Refused e none = absurd (none (e.1.named, e.1.words_are))
   unread status.Memory e none = absurd (none e.0)
   unread status.ReadFault e none = absurd (none e.0)
   unread status.WriteFault e none = let (s, text, c, front) = e.1 in unread_case s text c none
@@ -123,11 +122,17 @@ module _ (words : List (List ℕ)) (left left' : Option (List ℕ)) (reads reads
   memory_kept status.ReadFault e same = cc
   memory_kept status.TooLong e same = cc
 
--- words that a test says are no command
-pub no_command : (words : List (List ℕ)) (v : Bool) → (IsTrue v → IsCommand words) × (IsCommand words → IsTrue v) → v ≡ false → IsCommand words → ⊥
-no_command words v test off command =
-    let bad : false ≡ true = sym off ∙ test.1 command in
-    cc
+-- words are one command
+word_once : (a b : Command) → word_of a ≡ word_of b → a ≡ b
+word_once command.Check command.Check same = refl
+word_once command.Replay command.Replay same = refl
+word_once command.Check command.Replay same = absurd (omega (arith, ap (length {A = ℕ}) same))
+word_once command.Replay command.Check same = absurd (omega (arith, ap (length {A = ℕ}) same))
+
+pub names_once : (words : List (List ℕ)) (a b : Command) → Names words a → Names words b → a ≡ b
+names_once words a b h k =
+    let both : word_of a ∷ [] ≡ word_of b ∷ [] = sym h ∙ k in
+    word_once a b cc
 
 -- an input that is told whole is what was read
 input_whole : (a b : Option (List ℕ)) (bytes read : List ℕ) → a ≡ Some bytes → IsInput a b read → read ≡ bytes
@@ -139,7 +144,7 @@ input_whole (Some x) (Some y) bytes read e h =
     sym (sym same ∙ h.read ∙ ap (λ t. read ++ t) end ∙ append-nil read)
 
 -- no more is read than there is
-read_within : (a b : Option (List ℕ)) (bytes read : List ℕ) → a ≡ Some bytes → Consumes a b read → length read ≤ length bytes
+pub read_within : (a b : Option (List ℕ)) (bytes read : List ℕ) → a ≡ Some bytes → Consumes a b read → length read ≤ length bytes
 read_within None b bytes read e h = cc
 read_within (Some x) None bytes read e h = absurd h
 read_within (Some x) (Some y) bytes read e h =
@@ -149,45 +154,6 @@ read_within (Some x) (Some y) bytes read e h =
 module _ (words : List (List ℕ)) (left left' : Option (List ℕ)) (reads reads' : ℕ) (held held' : Option (List ℕ)) (writes writes' : ℕ) where
   abbrev EndsWith : Status → Type 0
   EndsWith s = Ends words left left' reads reads' held held' writes writes' s
-
-  -- a run without failures that is told its whole input, of at most 2^25 bytes, ends by what a replay of it answers
-  abbrev Answers : List ℕ → Status → Type 0
-  Answers bytes result = ((result ≡ status.Memory) × Keeps held held') ⊎ ((text : List ℕ) × IsReplayed bytes result text × Appends held held' text)
-
-  replayed : (result : Status) (bytes : List ℕ) → EndsWith result → GoesWell words reads reads' writes writes' → left ≡ Some bytes → length bytes ≤ most_bytes → Answers bytes result
-  replayed status.Memory bytes e well told fits = inl (refl, e.2)
-  replayed status.ReadFault bytes e well told fits = absurd (well.reading e.1)
-  replayed status.WriteFault bytes e well told fits = absurd (well.writing e.0)
-  replayed status.Usage bytes e well told fits = absurd (e.1.0 well.command)
-  replayed status.TooLong bytes e well told fits =
-      let (text, c, w) = e in
-      let (read, more, taken) = c.1 in
-      let within = read_within left left' bytes read told taken in
-      absurd (omega arith)
-  replayed status.Done bytes e well told fits =
-      let (text, c, w) = e in
-      let (read, input, r) = c.1 in
-      inr (text, subst (λ (b : List ℕ). IsReplayed b status.Done text) (input_whole left left' bytes read told input) r, w)
-  replayed status.Refused bytes e well told fits =
-      let (text, c, w) = e in
-      let (read, input, r) = c.1 in
-      inr (text, subst (λ (b : List ℕ). IsReplayed b status.Refused text) (input_whole left left' bytes read told input) r, w)
-
-  pub done_written : (result : Status) → EndsWith result → GoesWell words reads reads' writes writes' → (bytes : List ℕ) → left ≡ Some bytes → length bytes ≤ most_bytes
-      → (spheres : List Sphere) (questions : List PointQuestion) → IsFirstForm bytes spheres questions → IsWritten held held' status.Done (replay_text spheres questions) result
-  done_written result e well bytes told fits spheres questions form =
-      elim (replayed result bytes e well told fits) [
-        | inl memory ↦ inl memory
-        | inr done ↦ (let (text, r, w) = done in let (same, t) = done_case bytes text result spheres questions r form in inr (same, subst (λ (x : List ℕ). Appends held held' x) t w))
-      ]
-
-  pub refused_written : (result : Status) → EndsWith result → GoesWell words reads reads' writes writes' → (bytes : List ℕ) → left ≡ Some bytes → length bytes ≤ most_bytes → IsNoFirstForm bytes
-      → IsWritten held held' status.Refused (refused_text fault.NotBuilt) result
-  refused_written result e well bytes told fits none =
-      elim (replayed result bytes e well told fits) [
-        | inl memory ↦ inl memory
-        | inr done ↦ (let (text, r, w) = done in let (same, t) = refused_case bytes text result r none in inr (same, subst (λ (x : List ℕ). Appends held held' x) t w))
-      ]
 
   pub long_written : (result : Status) → EndsWith result → GoesWell words reads reads' writes writes' → (bytes : List ℕ) → left ≡ Some bytes → most_bytes < length bytes
       → IsWritten held held' status.TooLong too_long_text result
@@ -200,13 +166,25 @@ module _ (words : List (List ℕ)) (left left' : Option (List ℕ)) (reads reads
       inr (refl, subst (λ (x : List ℕ). Appends held held' x) c.2 w)
   long_written status.Done e well bytes told more =
       let (text, c, w) = e in
-      let (read, input, r) = c.1 in
-      let fits : length read ≤ most_bytes = input.fits in
-      let same : length read ≡ length bytes = ap (length {A = ℕ}) (input_whole left left' bytes read told input) in
+      let fits : length c.bytes ≤ most_bytes = c.input.fits in
+      let same : length c.bytes ≡ length bytes = ap (length {A = ℕ}) (input_whole left left' bytes c.bytes told c.input) in
       absurd (omega arith)
   long_written status.Refused e well bytes told more =
       let (text, c, w) = e in
-      let (read, input, r) = c.1 in
-      let fits : length read ≤ most_bytes = input.fits in
-      let same : length read ≡ length bytes = ap (length {A = ℕ}) (input_whole left left' bytes read told input) in
+      let fits : length c.bytes ≤ most_bytes = c.input.fits in
+      let same : length c.bytes ≡ length bytes = ap (length {A = ℕ}) (input_whole left left' bytes c.bytes told c.input) in
       absurd (omega arith)
+
+-- the text of a status was written, where no write failed
+pub finished_written : (held held' : Option (List ℕ)) (writes writes' : ℕ) (s result : Status) (text : List ℕ) → Finishes held held' writes writes' s text result → (Rose writes writes' → ⊥) → IsWritten held held' s text result
+finished_written held held' writes writes' s result text f none =
+    elim f [
+      | inl done ↦ inr done
+      | inr failed ↦ absurd (none failed.1)
+    ]
+
+-- what was told whole is what was answered, by the command that the words are
+pub answered_whole : (words : List (List ℕ)) (left left' held held' : Option (List ℕ)) (a c : Command) (read bytes : List ℕ) (s result : Status) (text : List ℕ) → Names words a → Names words c → left ≡ Some bytes → IsInput left left' read
+    → Answers c bytes s text → ((s : Status) (text : List ℕ) → Answers a read s text → IsWritten held held' s text result) → IsWritten held held' s text result
+answered_whole words left left' held held' a c read bytes s result text named other told input h only =
+    only s text (subst (λ (x : Command). Answers x read s text) (names_once words c a other named) (subst (λ (b : List ℕ). Answers c b s text) (sym (input_whole left left' bytes read told input)) h))

@@ -1,14 +1,13 @@
--- Laws of `strip`, `strip_all` and `cut`.
-use Rattle.std.proofs.Common.{◌≡◌, ◌≢◌, ℕ, zero, suc, ◌+◌, ◌-◌, ◌<◌, ◌≤◌, List, [], ◌∷◌, ◌++◌, Bool, true, false, cond, ◌&&◌, nat_eq, ◌==◌, length, take, drop, slice_index, replicate, Option, None, Some, All, refl, sym, ap, ◌∙◌, arith, add-one, decimal}
+-- Laws of `strip` and `cut`.
+use Rattle.std.proofs.Common.{◌≡◌, ◌≢◌, ℕ, suc, ◌+◌, ◌<◌, List, [], ◌∷◌, ◌++◌, Bool, true, false, cond, ◌&&◌, nat_eq, ◌==◌, length, take, drop, slice_index, Option, None, Some, All, refl, sym, ap, ◌∙◌, add-one}
 use Rattle.std.specs.Cmp.Lexicographic.{pointwise}
-use Rattle.std.specs.List.{AllByRecursion, list_all, concat}
+use Rattle.std.specs.List.{AllByRecursion}
 use Rattle.std.proofs.lemmas.List.Elements.{recursion_from_All}
 use Rattle.std.proofs.lemmas.List.{take-append-drop}
 use Rattle.std.proofs.Math.Seq.{drop-cons}
 use Rattle.solid_base.proofs.Pairs.{same_pair}
-use Rattle.solid_top.proofs.StepLaws.{same_test, test_same, test_other, test_turned, passed, bind-more, bind-bind}
-use Rattle.solid_top.specs.Columns.{blanks, padded}
-use Rattle.solid_top.specs.Reading.{◌>>=◌, strip, strip_all, cut}
+use Rattle.solid_top.proofs.StepLaws.{same_test, test_same, test_other, passed}
+use Rattle.solid_top.specs.Reading.{◌>>=◌, strip, cut}
 
 -- stripping by a test of the front
 pub strip-tests : (text bytes : List ℕ) → strip text bytes ≡ cond (pointwise nat_eq text (take (length text) bytes)) (Some (drop (length text) bytes)) None
@@ -17,26 +16,6 @@ strip-tests [] bytes = refl
 strip-tests (t ∷ ts) [] = refl
 strip-tests (t ∷ ts) (b ∷ bs) =
     elim (t == b) as (λ v. cond v (strip ts bs) None ≡ cond (v && pointwise nat_eq ts (take (length ts) bs)) (Some (drop (length ts) bs)) None) [ true ↦ strip-tests ts bs | false ↦ refl ]
-
-pub strip-append : (a b bytes : List ℕ) → strip (a ++ b) bytes ≡ (strip a bytes >>= λ rest. strip b rest)
-unfolding strip
-strip-append [] b bytes = refl
-strip-append (t ∷ ts) b [] = refl
-strip-append (t ∷ ts) b (x ∷ xs) =
-    elim (t == x) as (λ v. cond v (strip (ts ++ b) xs) None ≡ (cond v (strip ts xs) None >>= λ rest. strip b rest)) [ true ↦ strip-append ts b xs | false ↦ refl ]
-
--- stripping texts one after the other strips them joined
-pub strip_all-concat : (texts : List (List ℕ)) (bytes : List ℕ) → strip_all texts bytes ≡ strip (concat texts) bytes
-unfolding strip
-strip_all-concat [] bytes = refl
-strip_all-concat (text ∷ texts) bytes =
-    bind-more (strip text bytes) (λ rest. strip_all texts rest) (λ rest. strip (concat texts) rest) (λ rest. strip_all-concat texts rest) ∙ sym (strip-append text (concat texts) bytes)
-
-pub strip_all-append : (texts others : List (List ℕ)) (bytes : List ℕ) → strip_all (texts ++ others) bytes ≡ (strip_all texts bytes >>= λ rest. strip_all others rest)
-strip_all-append [] others bytes = refl
-strip_all-append (text ∷ texts) others bytes =
-    bind-more (strip text bytes) (λ rest. strip_all (texts ++ others) rest) (λ rest. strip_all texts rest >>= λ more. strip_all others more) (λ rest. strip_all-append texts others rest)
-    ∙ sym (bind-bind (strip text bytes) (λ rest. strip_all texts rest) (λ rest. strip_all others rest))
 
 -- what stands in front is stripped
 pub strip_again : (text rest : List ℕ) → strip text (text ++ rest) ≡ Some rest
@@ -54,31 +33,6 @@ strip_takes (t ∷ ts) (b ∷ bs) rest h =
     let same : t ≡ b = test_same t b e in
     let more : bs ≡ ts ++ rest = strip_takes ts bs rest k in
     cc
-
--- what is stripped from behind blanks or other bytes alike
-pub strip-replicate : (n b : ℕ) (bytes : List ℕ) → n ≤ length bytes → strip (replicate n b) bytes ≡ cond (list_all (λ x. x == b) (take n bytes)) (Some (drop n bytes)) None
-unfolding strip
-strip-replicate zero b bytes h = refl
-strip-replicate (suc n) b [] h = absurd (omega arith)
-strip-replicate (suc n) b (x ∷ xs) h =
-    let less : n ≤ length xs = omega arith in
-    ap (λ v. cond v (strip (replicate n b) xs) None) (test_turned b x) ∙ (
-    elim (x == b) as (λ v. cond v (strip (replicate n b) xs) None ≡ cond (v && list_all (λ y. y == b) (take n xs)) (Some (drop n xs)) None) [ true ↦ strip-replicate n b xs less | false ↦ refl ])
-
--- stripping blanks by a test of the front, as code does
-pub strip-blanks : (n : ℕ) (bytes front back : List ℕ) (v : Bool) → n ≤ length bytes → front ≡ take n bytes → back ≡ drop n bytes → list_all (λ b. b == 32) front ≡ v
-    → strip (replicate n 32) bytes ≡ cond v (Some back) None
-strip-blanks n bytes front back v within f b t =
-    let same : list_all (λ x. x == 32) (take n bytes) ≡ v = ap (list_all (λ x. x == 32)) (sym f) ∙ t in
-    strip-replicate n 32 bytes within ∙ (rw (same, b) refl)
-
-pub strip-short : (text bytes : List ℕ) → length bytes < length text → strip text bytes ≡ None
-unfolding strip
-strip-short [] bytes h = absurd (omega arith)
-strip-short (t ∷ ts) [] h = refl
-strip-short (t ∷ ts) (b ∷ bs) h =
-    let less : length bs < length ts = omega arith in
-    elim (t == b) as (λ v. cond v (strip ts bs) None ≡ None) [ true ↦ strip-short ts bs less | false ↦ refl ]
 
 -- bytes before the first stop
 pub cut_again : (stop : ℕ) (text rest : List ℕ) → AllByRecursion (λ b. b ≢ stop) text → cut stop (text ++ stop ∷ rest) ≡ Some (text, rest)
@@ -122,10 +76,3 @@ cut_at stop bytes n within is before =
     let behind : drop n bytes ≡ stop ∷ drop (n + 1) bytes = rw add-one (drop-cons bytes n 0 within ∙ ap (λ b. b ∷ drop (suc n) bytes) is) in
     let whole : bytes ≡ take n bytes ++ stop ∷ drop (n + 1) bytes = sym (take-append-drop n bytes) ∙ ap (λ l. take n bytes ++ l) behind in
     ap (cut stop) whole ∙ cut_again stop (take n bytes) (drop (n + 1) bytes) (recursion_from_All (λ b. b ≢ stop) (take n bytes) before)
-
--- stripping a number by its blanks and its digits, as code does
-pub strip-padded : (width n count : ℕ) (digits bytes : List ℕ) → digits ≡ decimal n → count ≡ width - length digits
-    → strip (padded width n) bytes ≡ (strip (blanks count) bytes >>= λ rest. strip digits rest)
-unfolding padded
-strip-padded width n count digits bytes d c =
-    strip-append (blanks (width - length (decimal n))) (decimal n) bytes ∙ (rw (c, d) refl)

@@ -1,9 +1,28 @@
--- solidd's own: the words that are a command.
+-- solidd's own: the words that are a command, and what a command answers to bytes.
 use Rattle.std.specs.Prelude.{◌≡◌, ℕ, List, [], ◌∷◌, codes}
+use Rattle.solid_top.specs.declared.commands.Command.{Command}
+use Rattle.solid_top.specs.declared.commands.Command.TheVariants as command
+use Rattle.solid_top.specs.declared.statuses.Status.{Status}
+use Rattle.solid_top.specs.Checks.{IsChecked}
+use Rattle.solid_top.specs.Replay.{IsReplayed}
 
--- the words are the one word `replay`
+-- the word of a command
+abbrev pub word_of : Command → List ℕ
+word_of command.Check = codes "check"
+word_of command.Replay = codes "replay"
+
+-- the words are this command: its one word
+abbrev pub Names : List (List ℕ) → Command → Type 0
+Names words c = words ≡ word_of c ∷ []
+
+-- the words are a command
 abbrev pub IsCommand : List (List ℕ) → Type 0
-IsCommand words = words ≡ codes "replay" ∷ []
+IsCommand words = (c : Command) × Names words c
+
+-- the status and the text that a command answers to bytes
+abbrev pub Answers : Command → List ℕ → Status → List ℕ → Type 0
+Answers command.Check bytes s text = IsChecked bytes s text
+Answers command.Replay bytes s text = IsReplayed bytes s text
 
 -- what is printed where they are no command
 abbrev pub usage_text : List ℕ

@@ -1,4 +1,4 @@
--- solidd's own: the script lines of the first form, each of which asks whether a point is inside a solid.
+-- solidd's own: script lines, each of which asks whether a point is inside a solid.
 use Rattle.std.specs.Prelude.{◌≡◌, ◌<◌, ◌≤◌, ℕ, ℤ, List, [], ◌∷◌, ◌++◌, codes, length}
 use Rattle.solid_base.specs.declared.geometry.Vec3.{Vec3}
 use Rattle.solid_base.specs.Digits.{AreDigits, number_of}

@@ -18,11 +18,6 @@ strip [] bytes = Some bytes
 strip (t ∷ ts) [] = None
 strip (t ∷ ts) (b ∷ bs) = cond (t == b) (strip ts bs) None
 
--- the bytes behind several texts, one after the other
-abbrev pub strip_all : List (List ℕ) → List ℕ → Option (List ℕ)
-strip_all [] bytes = Some bytes
-strip_all (text ∷ texts) bytes = strip text bytes >>= λ rest. strip_all texts rest
-
 -- the bytes before the first stop, and those behind it
 unfoldable pub cut : ℕ → List ℕ → Option (List ℕ × List ℕ)
 cut stop [] = None

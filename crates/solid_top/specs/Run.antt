@@ -6,8 +6,8 @@ use Rattle.std.specs.Io.KnownBytes.{Appends, Consumes, IsAtEnd, Keeps}
 use Rattle.solid_io.specs.Causes.{Rose, SameTold}
 use Rattle.solid_top.specs.declared.statuses.Status.{Status}
 use Rattle.solid_top.specs.declared.statuses.Status.TheVariants as status
-use Rattle.solid_top.specs.Commands.{IsCommand, usage_text, too_long_text}
-use Rattle.solid_top.specs.Replay.{IsReplayed}
+use Rattle.solid_top.specs.declared.commands.Command.{Command}
+use Rattle.solid_top.specs.Commands.{Names, IsCommand, Answers, usage_text, too_long_text}
 use Rattle.solid_top.specs.Streams.{AppendsFront, most_bytes}
 
 -- the input was read to its end, at most 2^25 bytes, and these are its bytes
@@ -16,12 +16,20 @@ pub record IsInput (left left' : Option (List ℕ)) (bytes : List ℕ) : Type 0 
   pub end : IsAtEnd left'
   pub fits : length bytes ≤ most_bytes
 
+-- the words are a command, the input was read, and this is what the command answers to it
+pub record ComesOf (words : List (List ℕ)) (left left' : Option (List ℕ)) (s : Status) (text : List ℕ) : Type 0 where
+  pub named : Command
+  pub words_are : Names words named
+  pub bytes : List ℕ
+  pub input : IsInput left left' bytes
+  pub answers : Answers named bytes s text
+
 -- the status and the text that a run comes to, before it writes: a usage line where the words are no command, and then nothing is
 -- read; TOO LONG where more than 2^25 bytes were read; else the answers to the input, or its refusal
 abbrev pub Comes : List (List ℕ) → Option (List ℕ) → Option (List ℕ) → Status → List ℕ → Type 0
-Comes words left left' status.Done text = IsCommand words × ((bytes : List ℕ) × IsInput left left' bytes × IsReplayed bytes status.Done text)
+Comes words left left' status.Done text = ComesOf words left left' status.Done text
 Comes words left left' status.Usage text = (IsCommand words → ⊥) × Keeps left left' × (text ≡ usage_text)
-Comes words left left' status.Refused text = IsCommand words × ((bytes : List ℕ) × IsInput left left' bytes × IsReplayed bytes status.Refused text)
+Comes words left left' status.Refused text = ComesOf words left left' status.Refused text
 Comes words left left' status.Memory text = ⊥
 Comes words left left' status.ReadFault text = ⊥
 Comes words left left' status.WriteFault text = ⊥

@@ -1,36 +1,63 @@
-ghost use Rattle.std.specs.Prelude.{◌≡◌, IfOk};
-ghost use Rattle.solid_top.specs.TopFaults.{top_number, top_words};
+ghost use Rattle.std.specs.Prelude.{◌≡◌, ◌↔◌, IsTrue, IfOk};
+ghost use Rattle.solid_top.specs.TopFaults.{IsOfText, top_number, top_words};
 
-use solid_base::Bytes;
+use iges_file::FileFault;
+use solid_base::{Bytes, word};
 use std::alloc::{AllocError, Global};
 use thiserror::Error;
 
 /// Why a model is not served.
 #[derive(Clone, Copy, Debug, PartialEq, Eq, Error)]
 pub enum TopFault {
-    /// The input is not of the first form, which is all that is served yet.
-    #[error("the model is of a form that is not served yet")]
+    /// A row of the model, or a line behind the file, is of a kind that is not served yet.
+    #[error("the model holds what is not served yet")]
     NotBuilt,
+    /// The bytes are no file that is read.
+    #[error("the file is faulty")]
+    File(FileFault),
 }
 
 impl TopFault {
-    /// The number of the fault.
+    /// The number of the fault: that of the file's fault, or 30.
     pub fn number(&self) -> u32
         ensures { result ≡ top_number self.now }
     {
         match self {
             TopFault::NotBuilt => 30,
+            TopFault::File(fault) => fault.number(),
         }
     }
 
-    /// The printed words of the fault.
+    /// The printed words of the fault: those of the file's fault, or NotBuilt. AllocError where memory
+    /// is wanting. Want of memory itself is never printed.
     pub fn write_fault(&self, alloc: Global) -> Result<Bytes, AllocError>
+        requires { IsOfText self.now }
         ensures { IfOk result (λ words. words ≡ top_words self.now) }
     {
-        let mut words = Bytes::new(alloc);
         match self {
-            TopFault::NotBuilt => words.extend_from_slice(b"NotBuilt")?,
+            TopFault::NotBuilt => word(alloc, b"NotBuilt"),
+            TopFault::File(fault) => fault.write_fault(alloc),
         }
-        Ok(words)
+    }
+}
+
+/// Whether a file's fault has words: neither it nor a fault in it is want of memory, whose number is 1.
+fn has_words(fault: &FileFault) -> bool
+    ensures { IsTrue result ↔ IsOfText (TopFault.File fault.now) }
+{
+    match fault {
+        FileFault::BadRow(_, row) => row.number() != 1,
+        other => other.number() != 1,
+    }
+}
+
+/// The fault of a file as that of a run. Want of memory is an error of its own.
+pub fn of_file(fault: FileFault) -> Result<TopFault, AllocError>
+    ensures { IfOk result (λ top. (top ≡ TopFault.File fault) × IsOfText top) }
+{
+    if has_words(&fault) {
+        Ok(TopFault::File(fault))
+    } else {
+        Err(AllocError)
     }
 }

@@ -4,23 +4,28 @@
 #![tactic(auto)]
 
 mod answers;
+mod checks;
+mod commands;
 mod faults;
-mod file;
-mod file_lines;
 pub mod laws;
 mod plain_numbers;
 mod points;
 mod program;
+pub mod program_laws;
 mod questions;
 mod replay;
 mod scan;
-mod spheres;
 mod statuses;
 mod streams;
-#[cfg(test)]
-mod tests;
 
+pub use checks::check_run;
+pub use commands::Command;
 pub use faults::TopFault;
 pub use program::run;
 pub use replay::{Output, replay_run};
 pub use statuses::Status;
+
+#[cfg(test)]
+mod replay_tests;
+#[cfg(test)]
+mod tests;

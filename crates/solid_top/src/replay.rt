@@ -1,19 +1,24 @@
-ghost use Rattle.std.specs.Prelude.{◌≡◌, ◌≤◌, ◌^◌, ◌++◌, [], ◌∷◌, List, length, IfOk, OnOk};
-ghost use Rattle.std.specs.List.{flat_map};
+ghost use Rattle.std.specs.Prelude.{◌≡◌, ◌≤◌, ◌+◌, ◌^◌, ◌++◌, [], ◌∷◌, ℕ, List, length, min, IsTrue, ◌↔◌, IfOk, IfSome, IfNone, OnOk};
+ghost use Rattle.std.specs.List.{flat_map, AllByRecursion};
+ghost use Rattle.iges_file.specs.Entities.{IsWritable};
+ghost use Rattle.solid_base.specs.Series.{Spells};
+ghost use Rattle.solid_base.specs.declared.entities.Model.{Model};
 ghost use Rattle.solid_base.specs.declared.replies.Reply.{Reply};
 ghost use Rattle.solid_top.specs.declared.questions.PointQuestion.{PointQuestion};
-ghost use Rattle.solid_top.specs.declared.spheres.Sphere.{Sphere};
-ghost use Rattle.solid_top.specs.Answers.{replay_text};
-ghost use Rattle.solid_top.specs.FirstForm.{IsFirstForm};
+ghost use Rattle.solid_top.specs.declared.statuses.Status.{Status};
+ghost use Rattle.solid_top.specs.Answers.{replay_text, evaluations};
+ghost use Rattle.solid_top.specs.Ledgers.{Counts, IsLater};
+ghost use Rattle.solid_top.specs.Models.{IsBuiltRow, AreBuilt, IsReplay};
 ghost use Rattle.solid_top.specs.Output.{reply_text, session_text, output_text};
-ghost use Rattle.solid_top.specs.Replay.{IsReplayed, IsNoFirstForm};
-ghost use Rattle.solid_top.specs.TopFaults.{refused_text};
+ghost use Rattle.solid_top.specs.Points.{IsPointLine};
+ghost use Rattle.solid_top.specs.Replay.{IsReplayed};
+ghost use Rattle.solid_top.specs.TopFaults.{IsOfText, refused_text};
 
 use crate::answers::push_replies;
-use crate::faults::TopFault;
-use crate::file::read_file;
+use crate::faults::{TopFault, of_file};
 use crate::statuses::Status;
-use solid_base::{Bytes, Ledger, push_decimal};
+use iges_file::read_model;
+use solid_base::{Bytes, Ledger, Row, Rows, push_decimal};
 use std::alloc::{AllocError, Global};
 
 /// What a run answers: its status, and the text to be written.
@@ -52,7 +57,8 @@ fn replay_output(alloc: Global, count: u32, replies: &[u8]) -> Result<Bytes, All
 }
 
 /// The answer to a model that is refused.
-fn refused(alloc: Global, fault: TopFault) -> Result<Output, AllocError>
+pub fn refused(alloc: Global, fault: TopFault) -> Result<Output, AllocError>
+    requires { IsOfText fault }
     ensures status { IfOk result (λ out. out.status ≡ Status.Refused) }
     ensures text { IfOk result (λ out. out.text ≡ refused_text fault) }
 {
@@ -66,9 +72,82 @@ fn refused(alloc: Global, fault: TopFault) -> Result<Output, AllocError>
     })
 }
 
-/// Answers the points of an input in the first form: a file of spheres, and a line of session 1 for
-/// each point. Any other input is refused as NotBuilt. Want of memory is an error, and the ledger is
-/// unchanged.
+/// Whether a row is answered: nothing, or a primitive that no matrix moves.
+fn is_built_row(row: &Row) -> bool
+    ensures { IsTrue result ↔ IsBuiltRow row.now }
+{
+    match row {
+        Row::Null => true,
+        Row::Prim { matrix, .. } => *matrix == 0,
+        _ => false,
+    }
+}
+
+/// Whether every row is answered.
+fn are_built(rows: &Rows) -> bool
+    ensures { IsTrue result ↔ AreBuilt rows.now }
+{
+    for at in 0..rows.len() {
+        if !is_built_row(&rows.get(at).row) {
+            return false;
+        }
+    }
+    true
+}
+
+/// The text of the answers to a script over rows. None where a row isn't answered, or the script is not
+/// made of point lines.
+fn replay_rows<L: Ledger>(
+    alloc: Global,
+    rows: &Rows,
+    script: &[u8],
+    leaves: &mut L,
+) -> Result<Option<Bytes>, AllocError>
+    requires writable { AllByRecursion IsWritable rows.now }
+    requires size { length script.now ≤ 2 ^ 25 }
+    ensures found { IfOk result (λ found. IfSome found (λ text. AreBuilt rows.now × ((questions : List PointQuestion) ×
+        Spells IsPointLine 0 script.now questions × (text ≡ replay_text rows.now questions) ×
+        Counts (L.count leaves.old) (L.count leaves.new) (evaluations rows.now questions)))) }
+    ensures none { IfOk result (λ found. IfNone found (AreBuilt rows.now → (questions : List PointQuestion) → Spells IsPointLine 0 script.now questions → ⊥)) }
+    ensures later { IsLater (L.count leaves.old) (L.count leaves.new) }
+{
+    if !are_built(rows) {
+        return Ok(None);
+    }
+    let mut replies = Bytes::new(alloc);
+    match push_replies(&mut replies, rows, script, leaves)? {
+        Some(count) => Ok(Some(replay_output(alloc, count, replies.as_slice())?)),
+        None => Ok(None),
+    }
+}
+
+fn replay_bytes<L: Ledger>(
+    alloc: Global,
+    bytes: &[u8],
+    leaves: &mut L,
+) -> Result<Output, AllocError>
+    requires { length bytes.now ≤ 2 ^ 25 }
+    ensures replayed { IfOk result (λ out. IsReplayed bytes.now out.status out.text) }
+    ensures counted { IfOk result (λ out. out.status ≡ Status.Done → (model : Model) × (questions : List PointQuestion) × IsReplay bytes.now model questions ×
+        Counts (L.count leaves.old) (L.count leaves.new) (evaluations model.rows questions)) }
+    ensures later { IsLater (L.count leaves.old) (L.count leaves.new) }
+{
+    let (model, end) = match read_model(alloc, bytes) {
+        Ok(read) => read,
+        Err(fault) => return refused(alloc, of_file(fault)?),
+    };
+    match replay_rows(alloc, &model.rows, &bytes[end..], leaves)? {
+        Some(text) => Ok(Output {
+            status: Status::Done,
+            text,
+        }),
+        None => refused(alloc, TopFault::NotBuilt),
+    }
+}
+
+/// Answers the points behind a file: a line of session 1 for each. Bytes that are no file are refused
+/// with their first fault; a model with a row that isn't answered yet, and lines that are no points,
+/// with NotBuilt. Each point on a primitive counts as one evaluation. Want of memory is an error.
 pub fn replay_run<L: Ledger>(
     alloc: Global,
     bytes: &[u8],
@@ -76,28 +155,10 @@ pub fn replay_run<L: Ledger>(
 ) -> Result<Output, AllocError>
     requires { length bytes.now ≤ 2 ^ 25 }
     ensures replayed { IfOk result (λ out. IsReplayed bytes.now out.status out.text) }
-    ensures first_form { (spheres : List Sphere) (questions : List PointQuestion) → IsFirstForm bytes.now spheres questions →
-        IfOk result (λ out. (out.status ≡ Status.Done) × (out.text ≡ replay_text spheres questions)) }
-    ensures not_built { IsNoFirstForm bytes.now →
-        IfOk result (λ out. (out.status ≡ Status.Refused) × (out.text ≡ refused_text TopFault.NotBuilt)) }
-    ensures ledger { leaves.new ≡ leaves.old }
+    ensures only { (s : Status) (text : List ℕ) → IsReplayed bytes.now s text → IfOk result (λ out. (out.status ≡ s) × (out.text ≡ text)) }
+    ensures ledger { (model : Model) (questions : List PointQuestion) → IsReplay bytes.now model questions → L.count leaves.old ≤ u64.MAX →
+        IfOk result (λ out. L.count leaves.new ≡ min (L.count leaves.old + evaluations model.rows questions) u64.MAX) }
+    ensures later { L.count leaves.old ≤ u64.MAX → L.count leaves.old ≤ L.count leaves.new }
 {
-    replay_points(alloc, bytes)
-}
-
-fn replay_points(alloc: Global, bytes: &[u8]) -> Result<Output, AllocError>
-    requires { length bytes.now ≤ 2 ^ 25 }
-    ensures { IfOk result (λ out. IsReplayed bytes.now out.status out.text) }
-{
-    let Some((spheres, script)) = read_file(alloc, bytes)? else {
-        return refused(alloc, TopFault::NotBuilt);
-    };
-    let mut replies = Bytes::new(alloc);
-    let Some(count) = push_replies(&mut replies, spheres.as_slice(), script)? else {
-        return refused(alloc, TopFault::NotBuilt);
-    };
-    Ok(Output {
-        status: Status::Done,
-        text: replay_output(alloc, count, replies.as_slice())?,
-    })
+    replay_bytes(alloc, bytes, leaves)
 }

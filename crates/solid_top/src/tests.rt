@@ -1,5 +1,5 @@
-//! Whole runs on worked inputs: each status once, and each allocating call with ample memory.
-use crate::{Status, TopFault, replay_run, run};
+//! Whole runs on worked inputs: each status once for each command, and each allocating call with ample memory.
+use crate::{Status, TopFault, check_run, replay_run, run};
 use solid_base::{Bytes, Numbers, Tally};
 use solid_io::{MemSink, MemSource, OpenGate};
 use std::alloc::{AllocError, Global};
@@ -17,14 +17,121 @@ const SPHERE: [&str; 6] = [
     "S      1G      1D      2P      1                                        T      1",
 ];
 
-/// The lines, each ended by LF.
-fn text(alloc: Global, lines: &[&str]) -> Result<Bytes, AllocError> {
+/// The same, with bars and hashes as delimiters, and a text of 80 characters over two lines.
+const BARS: [&str; 7] = [
+    "One sphere between bars.                                                S      1",
+    "1H||1H#|80HxxxxxxxxxxxxxxxxxxxxxxxxxxxxxxxxxxxxxxxxxxxxxxxxxxxxxxxxxxxxxG      1",
+    ",;xxxxxxxxxxxxxxxxx|#                                                   G      2",
+    "     158       1                                       0        00000000D      1",
+    "     158                       1       0                                D      2",
+    "158|1.0|0.0|0.0|0.0#                                                   1P      1",
+    "S      1G      2D      2P      1                                        T      1",
+];
+
+/// A sphere, a null entity, and two lines, with a scale, a unit and a version.
+const MIXED: [&str; 14] = [
+    "A sphere, nothing and two lines.                                        S      1",
+    ",,3Hsol,,,,,,,,,,1.5,2,2HMM,,,,,,,,11;                                  G      1",
+    "     158       1                                       0        00000000D      1",
+    "     158                       1       0                                D      2",
+    "       0                                                                D      3",
+    "       0                                                                D      4",
+    "     110       2                                       0        00000000D      5",
+    "     110                       1       0                                D      6",
+    "     110       3                                       0        00000000D      7",
+    "     110                       1       0                                D      8",
+    "158,1.0,0.0,0.0,0.0;                                                   1P      1",
+    "110,0.,0.,0.,1.,0.,0.;                                                 5P      2",
+    "110,0.,0.,0.,0.,1.,0.;                                                 7P      3",
+    "S      1G      1D      8P      3                                        T      1",
+];
+
+/// The lines, each ended so.
+fn ended(alloc: Global, lines: &[&str], end: &[u8]) -> Result<Bytes, AllocError> {
     let mut text = Bytes::new(alloc);
     for line in lines {
         text.extend_from_slice(line.as_bytes())?;
-        text.push(b'\n')?;
+        text.extend_from_slice(end)?;
     }
     Ok(text)
+}
+
+/// The lines, each ended by LF.
+fn text(alloc: Global, lines: &[&str]) -> Result<Bytes, AllocError> {
+    ended(alloc, lines, b"\n")
+}
+
+/// The first bytes of a text.
+fn front<'a>(rt: &impl Abort, bytes: &'a [u8], count: usize) -> &'a [u8] {
+    assert!(rt; count <= bytes.len());
+    &bytes[..count]
+}
+
+fn expect_check(
+    rt: &impl Abort,
+    alloc: Global,
+    bytes: &[u8],
+    status: Status,
+    want: &str,
+) -> Result<(), AllocError> {
+    assert!(rt; bytes.len() < 2000);
+    let output = check_run(alloc, bytes)?;
+    assert_eq!(rt; output.status, status, "{want}");
+    assert_eq!(rt; output.text.as_slice(), want.as_bytes());
+    Ok(())
+}
+
+#[test]
+fn files_are_told(rt: HostRuntime) -> Result<(), AllocError> {
+    let alloc = rt.alloc();
+    let none = "MODEL 1 READ 1 KEPT 0 NULL 0\nSCALE - UNITS - VERSION -\nEND\n";
+    let some = "MODEL 4 READ 1 KEPT 2 NULL 1\nSCALE 1.5 UNITS 2 VERSION 11\nEND\n";
+    let sphere = text(alloc, &SPHERE)?;
+    let bars = ended(alloc, &BARS, b"\r\n")?;
+    let mixed = text(alloc, &MIXED)?;
+    expect_check(&rt, alloc, sphere.as_slice(), Status::Done, none)?;
+    expect_check(&rt, alloc, bars.as_slice(), Status::Done, none)?;
+    expect_check(&rt, alloc, mixed.as_slice(), Status::Done, some)?;
+    let cut = front(&rt, bars.as_slice(), 200);
+    let short = "MODEL REFUSED ShortLine 3\n";
+    expect_check(&rt, alloc, cut, Status::Refused, short)
+}
+
+#[test]
+fn faults_are_told(rt: HostRuntime) -> Result<(), AllocError> {
+    let alloc = rt.alloc();
+    let cases = [
+        (0, "Two columns short.", "MODEL REFUSED ShortLine 1\n"),
+        (
+            3,
+            "     158                       1       0                                D      3",
+            "MODEL REFUSED BadSequence 4\n",
+        ),
+        (
+            4,
+            "158,4.9D-13;                                                           1P      1",
+            "MODEL REFUSED BadRow 1 BadSize 1\n",
+        ),
+        (
+            4,
+            "158,0.0,0.0,0.0,0.0;                                                   1P      1",
+            "MODEL REFUSED BadRow 1 BadSize 1\n",
+        ),
+        (
+            5,
+            "S      1G      1D      2P      2                                        T      1",
+            "MODEL REFUSED CountMismatch P 2 1\n",
+        ),
+    ];
+    for (place, line, want) in cases {
+        let mut lines = SPHERE;
+        lines[place] = line;
+        let input = text(alloc, &lines)?;
+        expect_check(&rt, alloc, input.as_slice(), Status::Refused, want)?;
+    }
+    let words = TopFault::NotBuilt.write_fault(alloc)?;
+    assert_eq!(rt; words.as_slice(), b"NotBuilt".as_slice());
+    Ok(())
 }
 
 #[test]
@@ -64,56 +171,6 @@ fn points_are_answered(rt: HostRuntime) -> Result<(), AllocError> {
         assert_eq!(rt; output.status, Status::Done);
         assert_eq!(rt; output.text.as_slice(), want.as_bytes(), "{line}");
     }
-    Ok(())
-}
-
-/// Whether a file of these lines is refused as not built.
-fn is_refused(rt: &impl Abort, alloc: Global, lines: &[&str]) -> Result<bool, AllocError> {
-    let input = text(alloc, lines)?;
-    assert!(rt; input.len() < 1000);
-    let mut leaves = Tally { count: 0 };
-    let output = replay_run(alloc, input.as_slice(), &mut leaves)?;
-    let want = b"MODEL REFUSED NotBuilt\n".as_slice();
-    Ok(output.status == Status::Refused && output.text.as_slice() == want)
-}
-
-#[test]
-fn other_inputs_are_not_built(rt: HostRuntime) -> Result<(), AllocError> {
-    let alloc = rt.alloc();
-    let cases = [
-        (0, "Two columns short."),
-        (
-            2,
-            "     150       1                                       0        00000000D      1",
-        ),
-        (
-            3,
-            "     158                       1       0                                D      3",
-        ),
-        (
-            4,
-            "158,0.0,0.0,0.0,0.0;                                                   1P      1",
-        ),
-        (
-            4,
-            "158,1,0.0,0.0,0.0;                                                     1P      1",
-        ),
-        (
-            5,
-            "S      1G      1D      2P      2                                        T      1",
-        ),
-    ];
-    for (place, line) in cases {
-        let mut lines = SPHERE;
-        lines[place] = line;
-        assert!(rt; is_refused(&rt, alloc, &lines)?, "{line}");
-    }
-    let mut block = SPHERE;
-    block[2] = "     150       1                                       0        00000000D      1";
-    block[3] = "     150                       1       0                                D      2";
-    assert!(rt; is_refused(&rt, alloc, &block)?);
-    let words = TopFault::NotBuilt.write_fault(alloc)?;
-    assert_eq!(rt; words.as_slice(), b"NotBuilt".as_slice());
     Ok(())
 }
 
@@ -158,37 +215,53 @@ fn expect_run(rt: &impl Abort, ended: &(Status, Bytes), status: Status, written:
 /// A call that is never reached.
 const NEVER: u32 = u32::MAX;
 
+/// The commands, each with what it answers to a sphere with one point behind it, and the first ten bytes
+/// of that.
+const COMMANDS: [(&str, &str, &str); 2] = [
+    (
+        "check",
+        "MODEL 1 READ 1 KEPT 0 NULL 0\nSCALE - UNITS - VERSION -\nEND\n",
+        "MODEL 1 RE",
+    ),
+    ("replay", "LOG 0\n@1 1\n0 INSIDE\nEND\n", "LOG 0\n@1 1"),
+];
+
+/// A sphere with a point behind it.
+fn sphere_and_point(alloc: Global) -> Result<Bytes, AllocError> {
+    let mut input = text(alloc, &SPHERE)?;
+    input.extend_from_slice(b"@1 point 1 0 0 0\n")?;
+    Ok(input)
+}
+
 #[test]
 fn inputs_have_their_status(rt: HostRuntime) -> Result<(), AllocError> {
     let alloc = rt.alloc();
-    let sphere = text(alloc, &SPHERE)?;
-    let ended = run_over(
-        &rt,
-        alloc,
-        &["replay"],
-        sphere.as_slice(),
-        NEVER,
-        NEVER,
-        100,
-    )?;
-    expect_run(&rt, &ended, Status::Done, "LOG 0\nEND\n");
-    let ended = run_over(&rt, alloc, &["replay"], b"", NEVER, NEVER, 100)?;
-    expect_run(&rt, &ended, Status::Refused, "MODEL REFUSED NotBuilt\n");
+    let sphere = sphere_and_point(alloc)?;
+    let input = sphere.as_slice();
     let long = blanks(alloc, (1 << 25) + 1)?;
-    let ended = run_over(&rt, alloc, &["replay"], &long, NEVER, NEVER, 100)?;
-    expect_run(&rt, &ended, Status::TooLong, "TOO LONG\n");
+    let refused = "MODEL REFUSED NoTerminate\n";
+    for (word, want, _) in COMMANDS {
+        let ended = run_over(&rt, alloc, &[word], input, NEVER, NEVER, 100)?;
+        expect_run(&rt, &ended, Status::Done, want);
+        let ended = run_over(&rt, alloc, &[word], b"", NEVER, NEVER, 100)?;
+        expect_run(&rt, &ended, Status::Refused, refused);
+        let ended = run_over(&rt, alloc, &[word], &long, NEVER, NEVER, 100)?;
+        expect_run(&rt, &ended, Status::TooLong, "TOO LONG\n");
+    }
+    Ok(())
+}
+
+#[test]
+fn other_words_are_no_command(rt: HostRuntime) -> Result<(), AllocError> {
+    let alloc = rt.alloc();
     let usage = "USAGE: solidd check, replay, serve or load N\n";
-    let ended = run_over(&rt, alloc, &[], sphere.as_slice(), NEVER, NEVER, 100)?;
+    for word in ["", "Check", "checks", "replay ", "serve"] {
+        let ended = run_over(&rt, alloc, &[word], b"", 0, NEVER, 100)?;
+        expect_run(&rt, &ended, Status::Usage, usage);
+    }
+    let ended = run_over(&rt, alloc, &[], b"", 0, NEVER, 100)?;
     expect_run(&rt, &ended, Status::Usage, usage);
-    let ended = run_over(
-        &rt,
-        alloc,
-        &["replay", "1"],
-        sphere.as_slice(),
-        NEVER,
-        NEVER,
-        100,
-    )?;
+    let ended = run_over(&rt, alloc, &["check", "replay"], b"", 0, NEVER, 100)?;
     expect_run(&rt, &ended, Status::Usage, usage);
     Ok(())
 }
@@ -196,23 +269,17 @@ fn inputs_have_their_status(rt: HostRuntime) -> Result<(), AllocError> {
 #[test]
 fn failing_calls_have_their_status(rt: HostRuntime) -> Result<(), AllocError> {
     let alloc = rt.alloc();
-    let mut sphere = text(alloc, &SPHERE)?;
-    sphere.extend_from_slice(b"@1 point 1 0 0 0\n")?;
-    for failing_read in [0, 1] {
-        let ended = run_over(
-            &rt,
-            alloc,
-            &["replay"],
-            sphere.as_slice(),
-            failing_read,
-            NEVER,
-            100,
-        )?;
-        expect_run(&rt, &ended, Status::ReadFault, "");
+    let sphere = sphere_and_point(alloc)?;
+    let input = sphere.as_slice();
+    for (word, _, front) in COMMANDS {
+        for failing_read in [0, 1] {
+            let ended = run_over(&rt, alloc, &[word], input, failing_read, NEVER, 100)?;
+            expect_run(&rt, &ended, Status::ReadFault, "");
+        }
+        let ended = run_over(&rt, alloc, &[word], input, NEVER, NEVER, 10)?;
+        expect_run(&rt, &ended, Status::WriteFault, front);
+        let ended = run_over(&rt, alloc, &[word], input, NEVER, 0, 100)?;
+        expect_run(&rt, &ended, Status::WriteFault, "");
     }
-    let ended = run_over(&rt, alloc, &["replay"], sphere.as_slice(), NEVER, NEVER, 10)?;
-    expect_run(&rt, &ended, Status::WriteFault, "LOG 0\n@1 1");
-    let ended = run_over(&rt, alloc, &["replay"], sphere.as_slice(), NEVER, 0, 100)?;
-    expect_run(&rt, &ended, Status::WriteFault, "");
     Ok(())
 }

@@ -1,26 +1,26 @@
 use Rattle.std.proofs.Common.{arith, sym, ◌∙◌, length}
-use Rattle.solid_top.proofs.AnswerLaws.{replied_step, replies_stop, replies_end, point_shorter}
-use Rattle.solid_top.proofs.StepLaws.{some_left, none_left}
+use Rattle.solid_top.proofs.AnswerLaws.{replied_step, replies_stop, later_joined, point_shorter}
+use Rattle.solid_top.proofs.StepLaws.{some_left}
 use Rattle.solid_top.proofs.answers.push_replies.Goals as goal
 
 pub returns-in_default-clause-none : goal.returns-in_default-clause-none
-returns-in_default-clause-none c =
+returns-in_default-clause-none g c =
     let some = some_left (length c.loop-rest.rest.now) (sym c.is_empty.ensures ∙ c.loop-rest-test.true) in
-    replies_stop c.args.spheres.now c.args.script.now c.loop-rest.rest.now c.args.out.now c.loop-rest.out c.loop-rest.count c.loop-rest.invariant.replied some c.in_default.ensures.value
+    replies_stop c.args.rows.now c.args.script.now c.loop-rest.rest.now c.args.out.now c.loop-rest.out c.loop-rest.count (g.L.Ledger.count c.args.leaves.now) (g.L.Ledger.count c.loop-rest.leaves) c.loop-rest.invariant.replied some
+    c.in_default.ensures.value
 
 pub loop-rest-smaller : goal.loop-rest-smaller
-loop-rest-smaller c = point_shorter c.loop-rest.rest.now c.in-Some.behind.now c.in-Some.question c.in-Some.ensures.value
+loop-rest-smaller g c = point_shorter c.loop-rest.rest.now c.in-Some.behind.now c.in-Some.question c.in-Some.ensures.value
 
 pub loop-rest-preserved : goal.loop-rest-preserved
-loop-rest-preserved c =
+loop-rest-preserved g c =
     let shorter = point_shorter c.loop-rest.rest.now c.in-Some.behind.now c.in-Some.question c.in-Some.ensures.value in
+    let start = g.L.Ledger.count c.args.leaves.now in
+    let before = g.L.Ledger.count c.loop-rest.leaves in
+    let behind = g.L.Ledger.count c.push_reply.new.leaves in
     record {
-      replied = replied_step c.args.spheres.now c.args.script.now c.loop-rest.rest.now c.in-Some.behind.now c.args.out.now c.loop-rest.out c.push_reply.new.out c.loop-rest.count c.in-Some.question c.loop-rest.invariant.replied
-          c.in-Some.ensures.value c.in_ok-push_reply.ensures;
-      within = omega (arith, shorter);
+      replied = replied_step c.args.rows.now c.args.script.now c.loop-rest.rest.now c.in-Some.behind.now c.args.out.now c.loop-rest.out c.push_reply.new.out c.loop-rest.count start before behind c.in-Some.question c.loop-rest.invariant.replied
+          c.in-Some.ensures.value c.in_ok-push_reply.ensures.reply c.in_ok-push_reply.ensures.ledger;
+      later = later_joined start before behind c.loop-rest.invariant.later c.in_ok-push_reply.ensures.later;
+      within = omega (arith, shorter, c.loop-rest.invariant.within);
     }
-
-pub returns-clause-found : goal.returns-clause-found
-returns-clause-found c =
-    let empty = none_left c.loop-rest.rest.now (sym c.is_empty.ensures ∙ c.loop-rest-test.false) in
-    replies_end c.args.spheres.now c.args.script.now c.loop-rest.rest.now c.args.out.now c.loop-rest.out c.loop-rest.count c.loop-rest.invariant.replied empty

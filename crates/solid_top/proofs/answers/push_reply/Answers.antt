@@ -3,8 +3,8 @@ use Rattle.solid_top.specs.Answers.{answer}
 use Rattle.solid_top.proofs.AnswerLaws.{reply_joined}
 use Rattle.solid_top.proofs.answers.push_reply.Goals as goal
 
-pub returns : goal.returns
-returns c =
+pub returns-clause-reply : goal.returns-clause-reply
+returns-clause-reply g c =
     on_ok_weaker c.extend_from_slice-2.result
-    (reply_joined c.args.out.now c.extend_from_slice.new.self c.push_answer.new.out c.extend_from_slice-2.new.self (answer c.args.spheres.now c.args.question.now) c.in_ok-extend_from_slice.ensures.ok c.in_ok-push_answer.ensures)
+    (reply_joined c.args.out.now c.extend_from_slice.new.self c.push_answer.new.out c.extend_from_slice-2.new.self (answer c.args.rows.now c.args.question.now) c.in_ok-extend_from_slice.ensures.ok c.in_ok-push_answer.ensures.answer)
     c.extend_from_slice-2.ensures.ok

@@ -1,4 +1,4 @@
-use Rattle.solid_top.proofs.RunLaws.{usage_only, usage_else, unread, read_caused, write_caused, memory_kept, done_written, refused_written, long_written}
+use Rattle.solid_top.proofs.RunLaws.{usage_only, usage_else, unread, read_caused, write_caused, memory_kept, long_written}
 use Rattle.solid_top.proofs.program.run.Goals as goal
 
 pub returns-clause-usage : goal.returns-clause-usage
@@ -18,9 +18,3 @@ returns-clause-memory g c = memory_kept _ _ _ _ _ _ _ _ _ c.run_words.result c.r
 
 pub returns-clause-too_long : goal.returns-clause-too_long
 returns-clause-too_long g c = long_written _ _ _ _ _ _ _ _ _ c.run_words.result c.run_words.ensures.ends
-
-pub returns-clause-answered : goal.returns-clause-answered
-returns-clause-answered g c = done_written _ _ _ _ _ _ _ _ _ c.run_words.result c.run_words.ensures.ends
-
-pub returns-clause-not_built : goal.returns-clause-not_built
-returns-clause-not_built g c = refused_written _ _ _ _ _ _ _ _ _ c.run_words.result c.run_words.ensures.ends

@@ -1,0 +1,93 @@
+-- A check has one answer, to all bytes.
+use Rattle.std.proofs.Common.{◌≡◌, inl, inr, ℕ, zero, suc, ◌+◌, ◌≤◌, List, [], ◌∷◌, length, drop, slice_get, Some, Result, Ok, Err, IfOk, refl, sym, ap, ◌∙◌, arith}
+use Rattle.std.specs.declared.alloc.AllocError.{AllocError}
+use Rattle.solid_base.specs.declared.entities.Model.{Model}
+use Rattle.solid_base.specs.declared.entities.Entity.{Entity}
+use Rattle.solid_base.specs.declared.solids.Row.{Row}
+use Rattle.solid_base.specs.declared.solids.Row.TheVariants as row
+use Rattle.iges_directory.specs.declared.pairs.Pair.{Pair}
+use Rattle.iges_file.specs.declared.faults.FileFault.{FileFault}
+use Rattle.iges_file.specs.Entities.{AreEntities}
+use Rattle.iges_file.specs.Files.{Reads, Refused}
+use Rattle.iges_file.proofs.DirectoryFacts.{few_pairs}
+use Rattle.iges_file.proofs.OneOutcome.{one_of_both, reads_once, first_fault, never_both}
+use Rattle.solid_top.specs.declared.checks.Tallies.{Tallies}
+use Rattle.solid_top.specs.declared.faults.TopFault.TheVariants as fault
+use Rattle.solid_top.specs.declared.replay.Output.{Output}
+use Rattle.solid_top.specs.declared.statuses.Status.{Status}
+use Rattle.solid_top.specs.declared.statuses.Status.TheVariants as status
+use Rattle.solid_top.specs.Checks.{with_row, tallies_from, IsChecked, check_text}
+use Rattle.solid_top.specs.Replay.{IsRefusal}
+use Rattle.solid_top.specs.TopFaults.{refused_text}
+
+entities_counted : (comma semi : ℕ) (params : List (List ℕ)) (pairs : List Pair) (rows : List Entity) → AreEntities comma semi params pairs rows → length rows ≡ length pairs
+entities_counted comma semi params [] [] h = refl
+entities_counted comma semi params [] (e ∷ es) h = absurd h
+entities_counted comma semi params (p ∷ ps) [] h = absurd h
+entities_counted comma semi params (p ∷ ps) (e ∷ es) h = omega (arith, entities_counted comma semi params ps es h.1)
+
+-- a file has at most 100,000 entities
+pub few_rows : (bytes : List ℕ) (model : Model) (end : ℕ) → Reads bytes model end → length model.rows ≤ 100000
+few_rows bytes model end h =
+    omega (arith, entities_counted model.comma model.semi h.cards.params h.pairs model.rows h.entities, few_pairs (length h.cards.params) h.cards.directory h.pairs h.directory)
+
+-- the rows from a place on are the row there and those behind it
+pub tallies_next : (t : Tallies) (rows : List Entity) (at : ℕ) (e : Entity) → slice_get rows at ≡ Some e
+    → tallies_from t (drop at rows) ≡ tallies_from (with_row t e.row) (drop (suc at) rows)
+tallies_next t [] at e is = cc
+tallies_next t (r ∷ rows) zero e is = let same : r ≡ e = cc in rw same refl
+tallies_next t (r ∷ rows) (suc at) e is = tallies_next t rows at e is
+
+-- a row counts once
+pub counted_once : (t : Tallies) (r : Row) → (with_row t r).null + (with_row t r).kept + (with_row t r).read ≡ t.null + t.kept + t.read + 1
+counted_once t row.Null = omega arith
+counted_once t (row.Opaque kind form matrix text) = omega arith
+counted_once t (row.Matrix form affine next) = omega arith
+counted_once t (row.Prim p matrix) = omega arith
+counted_once t (row.Tree items matrix) = omega arith
+counted_once t (row.Assembly items matrix) = omega arith
+counted_once t (row.Instance child matrix) = omega arith
+
+-- bytes are refused as a file with one line
+refusal_once : (bytes a b : List ℕ) → IsRefusal bytes a → IsRefusal bytes b → a ≡ b
+refusal_once bytes a b (f, r, t) (g, q, u) = t ∙ ap (λ (x : FileFault). refused_text (fault.File x)) (first_fault bytes f g r q) ∙ sym u
+
+pub checked_once : (bytes : List ℕ) (s t : Status) (a b : List ℕ) → IsChecked bytes s a → IsChecked bytes t b → (s ≡ t) × (a ≡ b)
+checked_once bytes status.Done status.Done a b (m, i, r, x) (n, j, q, y) = (refl, x ∙ ap check_text (reads_once bytes m n i j r q).0 ∙ sym y)
+checked_once bytes status.Done status.Refused a b (m, i, r, x) (f, q, y) = absurd (never_both bytes m i f r q)
+checked_once bytes status.Refused status.Done a b (f, q, y) (m, i, r, x) = absurd (never_both bytes m i f r q)
+checked_once bytes status.Refused status.Refused a b h k = (refl, refusal_once bytes a b h k)
+checked_once bytes status.Done status.Usage a b h k = absurd k
+checked_once bytes status.Done status.Memory a b h k = absurd k
+checked_once bytes status.Done status.ReadFault a b h k = absurd k
+checked_once bytes status.Done status.WriteFault a b h k = absurd k
+checked_once bytes status.Done status.TooLong a b h k = absurd k
+checked_once bytes status.Refused status.Usage a b h k = absurd k
+checked_once bytes status.Refused status.Memory a b h k = absurd k
+checked_once bytes status.Refused status.ReadFault a b h k = absurd k
+checked_once bytes status.Refused status.WriteFault a b h k = absurd k
+checked_once bytes status.Refused status.TooLong a b h k = absurd k
+checked_once bytes status.Usage t a b h k = absurd h
+checked_once bytes status.Memory t a b h k = absurd h
+checked_once bytes status.ReadFault t a b h k = absurd h
+checked_once bytes status.WriteFault t a b h k = absurd h
+checked_once bytes status.TooLong t a b h k = absurd h
+
+-- what is answered is the one answer
+pub checked_only : (bytes : List ℕ) (result : Result Output AllocError) → IfOk result (λ out. IsChecked bytes out.status out.text)
+    → (s : Status) (text : List ℕ) → IsChecked bytes s text → IfOk result (λ out. (out.status ≡ s) × (out.text ≡ text))
+checked_only bytes (Err e) h s text k = tt
+checked_only bytes (Ok out) h s text k = checked_once bytes out.status s out.text text h k
+
+-- a refusal with the first fault is what is answered
+pub refused_checked : (bytes : List ℕ) (f : FileFault) (result : Result Output AllocError) → Refused bytes f
+    → IfOk result (λ out. out.status ≡ status.Refused) → IfOk result (λ out. out.text ≡ refused_text (fault.File f)) → IfOk result (λ out. IsChecked bytes out.status out.text)
+refused_checked bytes f (Err e) h s t = tt
+refused_checked bytes f (Ok out) h s t = rw s (f, h, t)
+
+pub checked_some : (bytes : List ℕ) → (s : Status) × (text : List ℕ) × IsChecked bytes s text
+checked_some bytes =
+    elim (one_of_both bytes) [
+      | inl read ↦ (status.Done, check_text read.0, (read.0, read.1, read.2, refl))
+      | inr refused ↦ (status.Refused, refused_text (fault.File refused.0), (refused.0, refused.1, refl))
+    ]

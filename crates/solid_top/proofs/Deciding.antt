@@ -1,0 +1,69 @@
+-- Whether rows are answered, and whether bytes ask questions.
+use Rattle.std.proofs.Common.{◌≡◌, ◌⊎◌, inl, inr, ℕ, zero, suc, ◌<◌, ◌≤◌, List, [], ◌∷◌, length, Option, None, Some, refl, sym, ap, subst, ◌∙◌, arith}
+use Rattle.solid_base.specs.declared.entities.Entity.{Entity}
+use Rattle.solid_base.specs.declared.solids.Row.{Row}
+use Rattle.solid_base.specs.declared.solids.Row.TheVariants as row
+use Rattle.solid_base.specs.Series.{Spells}
+use Rattle.solid_base.proofs.Pairs.{same_pair}
+use Rattle.solid_top.specs.declared.questions.PointQuestion.{PointQuestion}
+use Rattle.solid_top.specs.FormReading.{point_at}
+use Rattle.solid_top.specs.Models.{IsBuiltRow, AreBuilt}
+use Rattle.solid_top.specs.Points.{IsPointLine}
+use Rattle.solid_top.proofs.AnswerLaws.{point_shorter}
+use Rattle.solid_top.proofs.PointLaws.{point_again, point_takes}
+
+-- ---- rows
+
+zero_or_not : (n : ℕ) → (n ≡ 0) ⊎ (n ≡ 0 → ⊥)
+zero_or_not zero = inl refl
+zero_or_not (suc n) = inr (λ e. omega (arith, e))
+
+row_built_or_not : (r : Row) → IsBuiltRow r ⊎ (IsBuiltRow r → ⊥)
+row_built_or_not row.Null = inl tt
+row_built_or_not (row.Opaque kind form matrix text) = inr (λ h. h)
+row_built_or_not (row.Matrix form affine next) = inr (λ h. h)
+row_built_or_not (row.Prim p matrix) = zero_or_not matrix
+row_built_or_not (row.Tree items matrix) = inr (λ h. h)
+row_built_or_not (row.Assembly items matrix) = inr (λ h. h)
+row_built_or_not (row.Instance child matrix) = inr (λ h. h)
+
+both_or_not : (A B : Type 0) → A ⊎ (A → ⊥) → B ⊎ (B → ⊥) → (A × B) ⊎ (A × B → ⊥)
+both_or_not A B (inl a) (inl b) = inl (a, b)
+both_or_not A B (inl a) (inr never) = inr (λ h. never h.1)
+both_or_not A B (inr never) b = inr (λ h. never h.0)
+
+pub built_or_not : (rows : List Entity) → AreBuilt rows ⊎ (AreBuilt rows → ⊥)
+built_or_not [] = inl tt
+built_or_not (e ∷ es) = both_or_not (IsBuiltRow e.row) (AreBuilt es) (row_built_or_not e.row) (built_or_not es)
+
+-- ---- questions
+
+-- bytes ask questions, of which the first has this place
+abbrev pub AsksFrom : ℕ → List ℕ → Type 0
+AsksFrom k bytes = (questions : List PointQuestion) × Spells IsPointLine k bytes questions
+
+-- what is asked begins with what is read
+asked_begins : (k : ℕ) (b : ℕ) (bs : List ℕ) → AsksFrom k (b ∷ bs) → (question : PointQuestion) × (rest : List ℕ) × (point_at (b ∷ bs) ≡ Some (question, rest)) × AsksFrom (suc k) rest
+asked_begins k b bs ([], h) = cc
+asked_begins k b bs (q ∷ qs, (first, more, whole, is, h)) = (q, more, ap point_at whole ∙ point_again k first more q is, (qs, h))
+
+one_more : (k b : ℕ) (bs rest : List ℕ) (question : PointQuestion) → point_at (b ∷ bs) ≡ Some (question, rest) → AsksFrom (suc k) rest ⊎ (AsksFrom (suc k) rest → ⊥) → AsksFrom k (b ∷ bs) ⊎ (AsksFrom k (b ∷ bs) → ⊥)
+one_more k b bs rest question e (inl (qs, h)) = let (line, is, split) = point_takes k (b ∷ bs) rest question e in inl (question ∷ qs, (line, rest, split, is, h))
+one_more k b bs rest question e (inr never) =
+    inr (λ h. (let (q, more, e', behind) = asked_begins k b bs h in
+    let (same, end) = same_pair q question more rest (sym e' ∙ e) in
+    never (subst (λ (t : List ℕ). AsksFrom (suc k) t) end behind)))
+
+asks_within : (n k : ℕ) (bytes : List ℕ) → length bytes ≤ n → AsksFrom k bytes ⊎ (AsksFrom k bytes → ⊥)
+asks_within n k [] few = inl ([], refl)
+asks_within zero k (b ∷ bs) few = absurd (omega arith)
+asks_within (suc n) k (b ∷ bs) few = go (point_at (b ∷ bs)) refl (λ rest shorter. asks_within n (suc k) rest (omega (arith, few, shorter))) where
+  go : (o : Option (PointQuestion × List ℕ)) → point_at (b ∷ bs) ≡ o → ((rest : List ℕ) → length rest < length (b ∷ bs) → AsksFrom (suc k) rest ⊎ (AsksFrom (suc k) rest → ⊥)) → AsksFrom k (b ∷ bs) ⊎ (AsksFrom k (b ∷ bs) → ⊥)
+  go None e behind =
+      inr (λ h. (let (q, more, e', left) = asked_begins k b bs h in
+      let bad : ◌≡◌ {A = Option (PointQuestion × List ℕ)} None (Some (q, more)) = sym e ∙ e' in
+      cc))
+  go (Some x) e behind = one_more k b bs x.1 x.0 e (behind x.1 (point_shorter (b ∷ bs) x.1 x.0 e))
+
+pub asks_or_not : (bytes : List ℕ) → AsksFrom 0 bytes ⊎ (AsksFrom 0 bytes → ⊥)
+asks_or_not bytes = asks_within (length bytes) 0 bytes (omega arith)

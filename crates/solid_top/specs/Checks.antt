@@ -1,0 +1,74 @@
+-- solidd's own: what a check of bytes answers.
+use Rattle.std.specs.Prelude.{◌≡◌, ℕ, ◌+◌, ◌-◌, List, [], ◌∷◌, ◌++◌, codes, decimal, length, slice_get, Option, None, Some}
+use Rattle.solid_base.specs.declared.entities.Entity.{Entity}
+use Rattle.solid_base.specs.declared.entities.Model.{Model}
+use Rattle.solid_base.specs.declared.entities.Token.{Token}
+use Rattle.solid_base.specs.declared.entities.Token.TheVariants as token
+use Rattle.solid_base.specs.declared.solids.Row.{Row}
+use Rattle.solid_base.specs.declared.solids.Row.TheVariants as row
+use Rattle.iges_file.specs.Files.{Reads}
+use Rattle.solid_top.specs.declared.checks.Tallies.{Tallies}
+use Rattle.solid_top.specs.declared.statuses.Status.{Status}
+use Rattle.solid_top.specs.declared.statuses.Status.TheVariants as status
+use Rattle.solid_top.specs.Replay.{IsRefusal}
+
+abbrev pub one_null : Tallies → Tallies
+one_null t = record { null = t.null + 1; kept = t.kept; read = t.read }
+
+abbrev pub one_kept : Tallies → Tallies
+one_kept t = record { null = t.null; kept = t.kept + 1; read = t.read }
+
+abbrev pub one_read : Tallies → Tallies
+one_read t = record { null = t.null; kept = t.kept; read = t.read + 1 }
+
+-- with one row more
+abbrev pub with_row : Tallies → Row → Tallies
+with_row t row.Null = one_null t
+with_row t (row.Opaque kind form matrix text) = one_kept t
+with_row t (row.Matrix form affine next) = one_read t
+with_row t (row.Prim p matrix) = one_read t
+with_row t (row.Tree items matrix) = one_read t
+with_row t (row.Assembly items matrix) = one_read t
+with_row t (row.Instance child matrix) = one_read t
+
+-- the rows of entities, from the first to the last, behind those that were counted
+abbrev pub tallies_from : Tallies → List Entity → Tallies
+tallies_from t [] = t
+tallies_from t (e ∷ es) = tallies_from (with_row t e.row) es
+
+abbrev pub tallies_of : List Entity → Tallies
+tallies_of rows = tallies_from (record { null = 0; kept = 0; read = 0 }) rows
+
+-- a global parameter as it is printed: a number as it is spelt, the content of a text, `-` where it is empty or left out
+abbrev pub parameter_words : Option Token → List ℕ
+parameter_words None = codes "-"
+parameter_words (Some token.Empty) = codes "-"
+parameter_words (Some (token.Whole text)) = text
+parameter_words (Some (token.Real text)) = text
+parameter_words (Some (token.Text text)) = text
+
+-- the global parameter with this number (IGES 5.3, 2.2.4.3), which is at least 3
+abbrev pub global_words : Model → ℕ → List ℕ
+global_words model number = parameter_words (slice_get model.global (number - 3))
+
+-- how many rows there are, and how many of them are read, kept and null
+abbrev pub rows_line : List Entity → List ℕ
+rows_line rows = codes "MODEL " ++ (decimal (length rows) ++ (codes " READ " ++ (decimal (tallies_of rows).read ++ (codes " KEPT " ++ (decimal (tallies_of rows).kept ++ (codes " NULL " ++ (decimal (tallies_of rows).null ++ codes "\n")))))))
+
+-- the model space scale (13), the units flag (14) and the version flag (23)
+abbrev pub globals_line : Model → List ℕ
+globals_line model = codes "SCALE " ++ (global_words model 13 ++ (codes " UNITS " ++ (global_words model 14 ++ (codes " VERSION " ++ (global_words model 23 ++ codes "\n")))))
+
+-- the text of a check
+abbrev pub check_text : Model → List ℕ
+check_text model = rows_line model.rows ++ (globals_line model ++ codes "END\n")
+
+-- Done comes only for a file, with the text of its model; Refused only for bytes that are refused as a file, with their first fault; no other status comes
+abbrev pub IsChecked : List ℕ → Status → List ℕ → Type 0
+IsChecked bytes status.Done text = (model : Model) × (end : ℕ) × Reads bytes model end × (text ≡ check_text model)
+IsChecked bytes status.Refused text = IsRefusal bytes text
+IsChecked bytes status.Usage text = ⊥
+IsChecked bytes status.Memory text = ⊥
+IsChecked bytes status.ReadFault text = ⊥
+IsChecked bytes status.WriteFault text = ⊥
+IsChecked bytes status.TooLong text = ⊥

@@ -1,0 +1,147 @@
+ghost use Rattle.std.specs.Prelude.{◌≡◌, ◌≤◌, ◌<◌, ◌+◌, ◌^◌, ◌++◌, ℕ, List, decimal, length, IfOk, OnOk};
+ghost use Rattle.solid_top.specs.declared.statuses.Status.{Status};
+ghost use Rattle.solid_top.specs.Checks.{IsChecked, check_text, global_words, globals_line, rows_line, tallies_of, with_row};
+
+use crate::faults::of_file;
+use crate::replay::{Output, refused};
+use crate::statuses::Status;
+use iges_file::read_model;
+use solid_base::{Bytes, Model, Row, Rows, Token, push_decimal};
+use std::alloc::{AllocError, Global};
+
+/// The number of the first global parameter that a model keeps: the two before it tell the delimiters
+/// (IGES 5.3, 2.2.4.3).
+const FIRST_KEPT: usize = 3;
+
+/// How many rows are null, are kept as they stand, and are read.
+#[derive(Clone, Copy, Debug, PartialEq, Eq)]
+pub struct Tallies {
+    pub null: u32,
+    pub kept: u32,
+    pub read: u32,
+}
+
+impl Tallies {
+    /// Counts one row more.
+    fn count(&mut self, row: &Row)
+        requires { self.now.null + self.now.kept + self.now.read < 100000 }
+        ensures { self.new ≡ with_row self.old row.now }
+    {
+        match row {
+            Row::Null => self.null += 1,
+            Row::Opaque { .. } => self.kept += 1,
+            Row::Matrix { .. }
+            | Row::Prim { .. }
+            | Row::Tree { .. }
+            | Row::Assembly { .. }
+            | Row::Instance { .. } => self.read += 1,
+        }
+    }
+}
+
+/// Counts the rows of a model.
+fn tally(rows: &Rows) -> Tallies
+    requires { length rows.now ≤ 100000 }
+    ensures { result ≡ tallies_of rows.now }
+{
+    let mut tallies = Tallies {
+        null: 0,
+        kept: 0,
+        read: 0,
+    };
+    for at in 0..rows.len() {
+        tallies.count(&rows.get(at).row);
+    }
+    tallies
+}
+
+/// Adds a label and a number behind it.
+fn push_count(out: &mut Bytes, label: &[u8], count: u32) -> Result<(), AllocError>
+    ensures { OnOk result (out.new ≡ out.old ++ (label.now ++ decimal count)) }
+{
+    out.extend_from_slice(label)?;
+    push_decimal(out, count)
+}
+
+/// Adds the line that tells how many rows there are, and how many of them are read, kept and null.
+fn push_rows(out: &mut Bytes, rows: &Rows) -> Result<(), AllocError>
+    requires { length rows.now ≤ 100000 }
+    ensures { OnOk result (out.new ≡ out.old ++ rows_line rows.now) }
+{
+    let tallies = tally(rows);
+    push_count(out, b"MODEL ", rows.len() as u32)?;
+    push_count(out, b" READ ", tallies.read)?;
+    push_count(out, b" KEPT ", tallies.kept)?;
+    push_count(out, b" NULL ", tallies.null)?;
+    out.extend_from_slice(b"\n")
+}
+
+/// The words of the global parameter with a number: `-` where it is empty or left out.
+fn global_words(model: &Model, number: usize) -> &[u8]
+    requires { 3 ≤ number }
+    ensures { result.now ≡ global_words model.now number }
+{
+    match model.global.as_slice().get(number - FIRST_KEPT) {
+        Some(Token::Whole(text)) => text.as_slice(),
+        Some(Token::Real(text)) => text.as_slice(),
+        Some(Token::Text(text)) => text.as_slice(),
+        Some(Token::Empty) | None => b"-",
+    }
+}
+
+/// Adds a label and the global parameter with a number behind it.
+fn push_global(
+    out: &mut Bytes,
+    label: &[u8],
+    model: &Model,
+    number: usize,
+) -> Result<(), AllocError>
+    requires { 3 ≤ number }
+    ensures { OnOk result (out.new ≡ out.old ++ (label.now ++ global_words model.now number)) }
+{
+    out.extend_from_slice(label)?;
+    out.extend_from_slice(global_words(model, number))
+}
+
+/// Adds the line of the model space scale, the units flag and the version flag.
+fn push_globals(out: &mut Bytes, model: &Model) -> Result<(), AllocError>
+    ensures { OnOk result (out.new ≡ out.old ++ globals_line model.now) }
+{
+    push_global(out, b"SCALE ", model, 13)?;
+    push_global(out, b" UNITS ", model, 14)?;
+    push_global(out, b" VERSION ", model, 23)?;
+    out.extend_from_slice(b"\n")
+}
+
+/// The text of a check.
+fn check_text(alloc: Global, model: &Model) -> Result<Bytes, AllocError>
+    requires { length model.now.rows ≤ 100000 }
+    ensures { IfOk result (λ text. text ≡ check_text model.now) }
+{
+    let mut text = Bytes::new(alloc);
+    push_rows(&mut text, &model.rows)?;
+    push_globals(&mut text, model)?;
+    text.extend_from_slice(b"END\n")?;
+    Ok(text)
+}
+
+/// Reads a file in the fixed form, of at most 2^25 bytes, and tells what it holds: how many rows there
+/// are, how many of them are read, kept and null, and the model space scale, the units flag and the
+/// version flag (IGES 5.3, 2.2.4.3, parameters 13, 14 and 23). The status is then `Done`.
+///
+/// Bytes that are no file are `Refused`, and the text is the line of their first fault. AllocError comes
+/// where memory is wanting.
+pub fn check_run(alloc: Global, bytes: &[u8]) -> Result<Output, AllocError>
+    requires { length bytes.now ≤ 2 ^ 25 }
+    ensures checked { IfOk result (λ out. IsChecked bytes.now out.status out.text) }
+    ensures only { (s : Status) (text : List ℕ) → IsChecked bytes.now s text →
+        IfOk result (λ out. (out.status ≡ s) × (out.text ≡ text)) }
+{
+    match read_model(alloc, bytes) {
+        Ok((model, _)) => Ok(Output {
+            status: Status::Done,
+            text: check_text(alloc, &model)?,
+        }),
+        Err(fault) => refused(alloc, of_file(fault)?),
+    }
+}

@@ -1,0 +1,17 @@
+ghost use Rattle.std.specs.Prelude.{◌≡◌, ℕ, List};
+ghost use Rattle.solid_top.specs.declared.commands.Command.{Command};
+ghost use Rattle.solid_top.specs.declared.statuses.Status.{Status};
+ghost use Rattle.solid_top.specs.Checks.{IsChecked};
+ghost use Rattle.solid_top.specs.Commands.{Names};
+
+/// A law on all bytes: a check answers them, with one status and one text.
+pub fn one_check()
+    ensures some { (bytes : List ℕ) → (s : Status) × (text : List ℕ) × IsChecked bytes s text }
+    ensures once { (bytes : List ℕ) (s t : Status) (a b : List ℕ) →
+        IsChecked bytes s a → IsChecked bytes t b → (s ≡ t) × (a ≡ b) }
+{}
+
+/// A law on all words: they are one command at most.
+pub fn one_command()
+    ensures { (words : List (List ℕ)) (a b : Command) → Names words a → Names words b → a ≡ b }
+{}
