@@ -1,10 +1,10 @@
 #!/usr/bin/env python3
-"""run.py [PROGRAM] [--yardstick PATH] [--spheres N] [--points M] [--runs K]
+"""run.py [PROGRAM] [--yardstick PATH] [--runs K] [--only NAME]
 
-Times `PROGRAM replay` on generated spheres and point questions, turn by turn with another program that
-gives the same answers, the yardstick. Prints each one's best processor time (user and system) and its
-peak memory, and the ratios. Fails where an output or a status differs. With no yardstick there, times
-PROGRAM alone. The path of the yardstick comes from --yardstick, else from SOLIDD_YARDSTICK.
+Times PROGRAM on generated inputs, turn by turn with another program that gives the same answers, the
+yardstick. Prints for each input both programs' best processor time (user and system), their peak memory
+and the ratios. Fails where an output or a status differs. With no yardstick there, times PROGRAM alone.
+The path of the yardstick comes from --yardstick, else from SOLIDD_YARDSTICK.
 """
 import argparse
 import filecmp
@@ -15,6 +15,17 @@ import tempfile
 
 HERE = os.path.dirname(os.path.abspath(__file__))
 ROOT = os.path.dirname(HERE)
+KINDS = ["block", "wedge", "cylinder", "cone", "sphere", "torus", "ellipsoid"]
+
+# The name of an input, the command, the maker and its options.
+INPUTS = [
+    ("check of 100,000 mixed entities", "check", "make_mixed.py", ["--entities", "100000", "--others"]),
+    ("90,000 spheres, 250,000 points", "replay", "make_spheres.py", ["--spheres", "90000", "--points", "250000"]),
+    ("10,000 mixed primitives, 200,000 points", "replay", "make_mixed.py", ["--points", "200000"]),
+] + [
+    ("10,000 of %s, 200,000 points" % kind, "replay", "make_mixed.py", ["--points", "200000", "--kinds", kind])
+    for kind in KINDS
+]
 
 
 class Timing:
@@ -38,14 +49,12 @@ class Timing:
         return process.returncode
 
     def line(self):
-        return "%-10s %8.3f s %8.1f MB" % (self.name, self.seconds, self.megabytes)
+        return "  %-10s %8.3f s %8.1f MB" % (self.name, self.seconds, self.megabytes)
 
 
-def make_data(path, spheres, points):
-    maker = [sys.executable, os.path.join(HERE, "make_spheres.py")]
-    maker += ["--spheres", str(spheres), "--points", str(points)]
+def make_data(path, maker, options):
     with open(path, "wb") as sink:
-        subprocess.run(maker, stdout=sink, check=True)
+        subprocess.run([sys.executable, os.path.join(HERE, maker)] + options, stdout=sink, check=True)
 
 
 def compare(folder, program, yardstick, runs):
@@ -66,44 +75,49 @@ def compare(folder, program, yardstick, runs):
     return None
 
 
+def time_input(folder, args, name, command, maker, options):
+    """Times both programs on one input. Answers a message where they differ, else None."""
+    data = os.path.join(folder, "input")
+    make_data(data, maker, options)
+    program = Timing("solidd", [os.path.abspath(args.program), command])
+    yardstick = None
+    if os.access(args.yardstick, os.X_OK):
+        yardstick = Timing("yardstick", [os.path.abspath(args.yardstick), "--stage", "3", "--engine", "plain", command])
+    problem = compare(folder, program, yardstick, args.runs)
+    print("%s, %.1f MB, best of %d" % (name, os.path.getsize(data) / 1e6, args.runs))
+    if problem is not None:
+        return problem
+    print(program.line())
+    if yardstick is not None:
+        print(yardstick.line())
+        print("  %-10s %8.2f   %8.2f" % ("ratio", program.seconds / yardstick.seconds, program.megabytes / yardstick.megabytes))
+    return None
+
+
 def main():
     parser = argparse.ArgumentParser(
-        usage=argparse.SUPPRESS,
-        description=__doc__,
-        formatter_class=argparse.RawDescriptionHelpFormatter,
+        usage=argparse.SUPPRESS, description=__doc__, formatter_class=argparse.RawDescriptionHelpFormatter
     )
     parser.add_argument("program", nargs="?", default=os.path.join(ROOT, "crates/solidd/out/solidd"))
     parser.add_argument(
         "--yardstick",
         default=os.environ.get("SOLIDD_YARDSTICK", os.path.join(ROOT, "../shared/tools/yardstick")),
     )
-    parser.add_argument("--spheres", type=int, default=90_000)
-    parser.add_argument("--points", type=int, default=250_000)
     parser.add_argument("--runs", type=int, default=5)
+    parser.add_argument("--only", default="")
     args = parser.parse_args()
     if args.runs < 1:
         parser.error("at least one run")
     if not os.access(args.program, os.X_OK):
         parser.error("there is no program %s: ./solidd builds it" % args.program)
-    program = Timing("solidd", [os.path.abspath(args.program), "replay"])
-    yardstick = None
-    if os.access(args.yardstick, os.X_OK):
-        yardstick = Timing("yardstick", [os.path.abspath(args.yardstick), "--stage", "1", "replay"])
-    with tempfile.TemporaryDirectory() as folder:
-        data = os.path.join(folder, "input")
-        make_data(data, args.spheres, args.points)
-        megabytes = os.path.getsize(data) / 1e6
-        print("%d spheres, %d points, %.1f MB, best of %d" % (args.spheres, args.points, megabytes, args.runs))
-        problem = compare(folder, program, yardstick, args.runs)
-    if problem is not None:
-        sys.exit(problem)
-    print(program.line())
-    if yardstick is None:
+    if not os.access(args.yardstick, os.X_OK):
         print("no yardstick at %s" % args.yardstick)
-        return
-    print(yardstick.line())
-    print("%-10s %8.2f   %8.2f" % ("ratio", program.seconds / yardstick.seconds, program.megabytes / yardstick.megabytes))
-    print("the outputs are equal")
+    with tempfile.TemporaryDirectory() as folder:
+        for name, command, maker, options in INPUTS:
+            if args.only in name:
+                problem = time_input(folder, args, name, command, maker, options)
+                if problem is not None:
+                    sys.exit(problem)
 
 
 if __name__ == "__main__":

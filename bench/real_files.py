@@ -1,0 +1,40 @@
+#!/usr/bin/env python3
+"""real_files.py [PROGRAM] [--folder PATH]
+
+Runs `PROGRAM check` on files by real CAD systems (*.igs, *.iges) and fails where one of them is refused.
+Skips where the folder isn't there. Its path comes from --folder, else from SOLIDD_REAL_FILES.
+"""
+import argparse
+import glob
+import os
+import subprocess
+import sys
+
+ROOT = os.path.dirname(os.path.dirname(os.path.abspath(__file__)))
+
+
+def main():
+    parser = argparse.ArgumentParser(
+        usage=argparse.SUPPRESS, description=__doc__, formatter_class=argparse.RawDescriptionHelpFormatter
+    )
+    parser.add_argument("program", nargs="?", default=os.path.join(ROOT, "crates/solidd/out/solidd"))
+    parser.add_argument(
+        "--folder", default=os.environ.get("SOLIDD_REAL_FILES", os.path.join(ROOT, "../shared/real"))
+    )
+    args = parser.parse_args()
+    files = sorted(glob.glob(os.path.join(args.folder, "*.ig*s")))
+    if not files:
+        print("no files at %s: skipped" % args.folder)
+        return
+    refused = 0
+    for path in files:
+        with open(path, "rb") as source:
+            done = subprocess.run([os.path.abspath(args.program), "check"], stdin=source, stdout=subprocess.PIPE)
+        refused += done.returncode != 0
+        print("%s: %s" % (os.path.basename(path), done.stdout.decode().splitlines()[0]))
+    if refused:
+        sys.exit("%d refused" % refused)
+
+
+if __name__ == "__main__":
+    main()
