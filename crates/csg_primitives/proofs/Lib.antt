@@ -1,5 +1,4 @@
 pub mod Classes
-pub mod Squares
 pub mod SignClasses
 pub mod Pairwise
 pub mod SpanClasses

@@ -13,7 +13,7 @@ use Rattle.csg_primitives.specs.WrittenFrames.{point_spans, offset_spans, height
 use Rattle.csg_primitives.specs.Sharpness.{IsWholeUnit, IsStraight}
 use Rattle.csg_primitives.proofs.PointSpans.{in_units, point_minus, dot_points, cross_points, squared_length_points, less_scaled}
 
-times_one : (z : ℤ) → z *ℤ pos 1 ≡ z
+pub times_one : (z : ℤ) → z *ℤ pos 1 ≡ z
 times_one z = omega (arith, ints)
 
 zero_times : (z : ℤ) → pos 0 *ℤ z ≡ pos 0

@@ -146,7 +146,7 @@ fn replay_bytes<L: Ledger>(
 }
 
 /// Answers the points behind a file: a line of session 1 for each. Bytes that are no file are refused
-/// with their first fault; a model with a row that isn't answered yet, and lines that are no points,
+/// with their first fault; a model with a row that isn't answered yet, or with lines that are no points,
 /// with NotBuilt. Each point on a primitive counts as one evaluation. Want of memory is an error.
 pub fn replay_run<L: Ledger>(
     alloc: Global,
