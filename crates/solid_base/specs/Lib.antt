@@ -5,3 +5,6 @@ pub mod Series
 pub mod Range
 pub mod Trees
 pub mod Ranges
+pub mod References
+pub mod Graph
+pub mod Stack

@@ -5,3 +5,11 @@ pub enum Class {
     Mixed,
     Inside,
 }
+
+/// The class of a solid over a box, and the number of the primitive that leaves it `Mixed`: 0 where the
+/// class isn't `Mixed`.
+#[derive(Clone, Copy, Debug, PartialEq, Eq)]
+pub struct Verdict {
+    pub class: Class,
+    pub leaf: u32,
+}

@@ -9,21 +9,25 @@ mod entities;
 mod geometry;
 mod ledger;
 mod lists;
+mod references;
 mod replies;
 mod rows;
 mod scan;
 mod solids;
+mod verdicts;
 mod words;
 
-pub use classes::Class;
+pub use classes::{Class, Verdict};
 pub use entities::{Entity, Model, RowText, Token, Tokens};
 pub use geometry::{Affine, Cube, Vec3};
 pub use ledger::{Ledger, NoTally, Tally};
 pub use lists::{Bytes, Lines, List, Numbers};
+pub use references::reference_list;
 pub use replies::Reply;
 pub use rows::Rows;
 pub use scan::{after_sign, are_blanks, behind_blanks, digit_count, number_up_to};
 pub use solids::{Item, Items, Placed, PlacedList, Primitive as Prim, Row};
+pub use verdicts::Verdicts;
 pub use words::{push_decimal, word, word_and_number};
 
 /// The steps in one unit: every length and coordinate is a whole number of steps of 10^-12 units.

@@ -1,7 +1,10 @@
-ghost use Rattle.std.specs.Prelude.{◌≡◌, ◌<◌, [], ◌∷◌, ◌++◌, length, map, slice_get, OnOk, OnErr, IfOk};
+ghost use Rattle.std.specs.Prelude.{◌≡◌, ◌<◌, [], ◌∷◌, ◌++◌, length, map, slice_get, OnOk, OnErr, IfOk, MatchOption};
 ghost use Rattle.std.specs.Arc.{arc_value};
+ghost use Rattle.solid_base.specs.declared.solids.Row.TheVariants as row;
+ghost use Rattle.solid_base.specs.References.{row_at};
 
 use crate::entities::Entity;
+use crate::solids::Row;
 use std::alloc::{AllocError, Global};
 use std::marker::Model;
 use std::sync::Arc;
@@ -61,6 +64,20 @@ impl Rows {
         &self.items[at]
     }
 
+    /// The row of the entity with a number. The entity at place `i` has the number `2 i + 1`; None where
+    /// no entity has the number.
+    #[tactic(auto, unfolding(crate::specs::References::row_at))]
+    pub fn row(&self, number: u32) -> Option<&Row>
+        ensures { MatchOption result (row_at self.now number ≡ row.Null) (λ r. row_at self.now number ≡ r.now) }
+    {
+        let place = (number / 2) as usize;
+        if number % 2 == 1 && place < self.len() {
+            Some(&self.get(place).row)
+        } else {
+            None
+        }
+    }
+
     /// Adds an entity at the end. Where memory is wanting the rows are unchanged.
     pub fn push(&mut self, item: Arc<Entity>) -> Result<(), AllocError>
         ensures ok { OnOk result (self.new ≡ self.old ++ arc_value item ∷ []) }
@@ -86,7 +103,6 @@ impl Rows {
 mod tests {
     use super::*;
     use crate::lists::{Bytes, List};
-    use crate::solids::Row;
 
     #[test]
     fn shares_the_same_entities_in_order(rt: HostRuntime) -> Result<(), AllocError> {
@@ -105,6 +121,10 @@ mod tests {
                 tail: List::new(alloc),
             };
             rows.push(Arc::new(alloc, entity)?)?;
+        }
+        assert!(rt; matches!(rows.row(5), Some(Row::Opaque { kind: 180, .. })));
+        for number in [0, 2, 4, 6, 7] {
+            assert!(rt; rows.row(number).is_none(), "number {number}");
         }
         let shared = rows.share(alloc)?;
         assert_eq!(rt; shared.len(), rows.len());

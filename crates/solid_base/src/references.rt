@@ -1,0 +1,160 @@
+ghost use Rattle.std.specs.Prelude.{◌≡◌, ◌++◌, map, IfOk, OnOk};
+ghost use Rattle.solid_base.specs.References.{target, matrix_named, operands_of, items_of, matrices_of, references};
+
+use crate::lists::Numbers;
+use crate::solids::{Item, Placed, Row};
+use std::alloc::{AllocError, Global};
+
+/// Adds the number of a matrix, where it isn't 0.
+fn push_matrix(numbers: &mut Numbers, matrix: u32) -> Result<(), AllocError>
+    ensures { OnOk result (numbers.new ≡ numbers.old ++ map target (matrix_named matrix)) }
+{
+    if matrix != 0 {
+        numbers.push(matrix)?;
+    }
+    Ok(())
+}
+
+fn push_operands(numbers: &mut Numbers, items: &[Item]) -> Result<(), AllocError>
+    ensures { OnOk result (numbers.new ≡ numbers.old ++ map target (operands_of items.now)) }
+{
+    for item in items {
+        if let Item::Operand(entity) = item {
+            numbers.push(*entity)?;
+        }
+    }
+    Ok(())
+}
+
+fn push_items(numbers: &mut Numbers, items: &[Placed]) -> Result<(), AllocError>
+    ensures { OnOk result (numbers.new ≡ numbers.old ++ map target (items_of items.now)) }
+{
+    for placed in items {
+        numbers.push(placed.item)?;
+    }
+    Ok(())
+}
+
+fn push_matrices(numbers: &mut Numbers, items: &[Placed]) -> Result<(), AllocError>
+    ensures { OnOk result (numbers.new ≡ numbers.old ++ map target (matrices_of items.now)) }
+{
+    for placed in items {
+        push_matrix(numbers, placed.matrix)?;
+    }
+    Ok(())
+}
+
+/// The numbers that a row names, in order: its own matrix where it isn't 0, of a matrix the one that is
+/// applied behind it; then the operands of a tree, or the items of an assembly and behind them their
+/// matrices that aren't 0, or the solid of an instance. AllocError where memory is wanting.
+#[tactic(auto, unfolding(crate::specs::References::references_of))]
+pub fn reference_list(alloc: Global, row: &Row) -> Result<Numbers, AllocError>
+    ensures { IfOk result (λ numbers. numbers ≡ references row.now) }
+{
+    let mut numbers = Numbers::new(alloc);
+    match row {
+        Row::Null | Row::Opaque { .. } => {}
+        Row::Matrix { next, .. } => push_matrix(&mut numbers, *next)?,
+        Row::Prim { matrix, .. } => push_matrix(&mut numbers, *matrix)?,
+        Row::Tree { items, matrix } => {
+            push_matrix(&mut numbers, *matrix)?;
+            push_operands(&mut numbers, items.as_slice())?;
+        }
+        Row::Assembly { items, matrix } => {
+            push_matrix(&mut numbers, *matrix)?;
+            push_items(&mut numbers, items.as_slice())?;
+            push_matrices(&mut numbers, items.as_slice())?;
+        }
+        Row::Instance { child, matrix } => {
+            push_matrix(&mut numbers, *matrix)?;
+            numbers.push(*child)?;
+        }
+    }
+    Ok(numbers)
+}
+
+#[cfg(test)]
+mod tests {
+    use super::*;
+    use crate::geometry::{Affine, Vec3};
+    use crate::lists::{Bytes, List};
+    use crate::solids::Primitive;
+
+    const ORIGIN: Vec3 = Vec3 { x: 0, y: 0, z: 0 };
+
+    fn placed(item: u32, matrix: u32) -> Placed {
+        Placed { item, matrix }
+    }
+
+    fn rows(alloc: Global) -> Result<[Row; 9], AllocError> {
+        let items = [Item::Operand(1), Item::Operand(0), Item::Less];
+        let parts = [placed(5, 0), placed(0, 9), placed(5, 11)];
+        let affine = Affine {
+            row1: ORIGIN,
+            row2: ORIGIN,
+            row3: ORIGIN,
+            shift: ORIGIN,
+        };
+        let prim = Primitive::Sphere {
+            r: 1,
+            centre: ORIGIN,
+        };
+        Ok([
+            Row::Null,
+            Row::Opaque {
+                kind: 314,
+                form: 0,
+                matrix: 3,
+                text: Bytes::new(alloc),
+            },
+            Row::Matrix {
+                form: 0,
+                affine,
+                next: 0,
+            },
+            Row::Matrix {
+                form: 0,
+                affine,
+                next: 7,
+            },
+            Row::Prim { prim, matrix: 3 },
+            Row::Tree {
+                items: List::from_vec(Vec::from_slice(alloc, &items)?),
+                matrix: 7,
+            },
+            Row::Assembly {
+                items: List::from_vec(Vec::from_slice(alloc, &parts)?),
+                matrix: 3,
+            },
+            Row::Instance {
+                child: 5,
+                matrix: 7,
+            },
+            Row::Instance {
+                child: 0,
+                matrix: 0,
+            },
+        ])
+    }
+
+    #[test]
+    fn lists_what_a_row_names_in_order(rt: HostRuntime) -> Result<(), AllocError> {
+        let alloc = rt.alloc();
+        let wanted: [&[u32]; 9] = [
+            &[],
+            &[],
+            &[],
+            &[7],
+            &[3],
+            &[7, 1, 0],
+            &[3, 5, 0, 5, 9, 11],
+            &[7, 5],
+            &[0],
+        ];
+        let rows = rows(alloc)?;
+        for (row, want) in rows.iter().zip(wanted) {
+            assert_eq!(rt; reference_list(alloc, row)?.as_slice(), want, "{row:?}");
+        }
+        Ok(())
+    }
+}
