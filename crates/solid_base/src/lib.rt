@@ -4,6 +4,7 @@
 //! Contracts see each list as the list of its items, and each other type as the record of its fields.
 #![tactic(auto)]
 
+mod borrowed_lines;
 mod classes;
 mod entities;
 mod geometry;
@@ -17,6 +18,7 @@ mod solids;
 mod verdicts;
 mod words;
 
+pub use borrowed_lines::BorrowedLines;
 pub use classes::{Class, Verdict};
 pub use entities::{Entity, Model, RowText, Token, Tokens};
 pub use geometry::{Affine, Cube, Vec3};
