@@ -3,3 +3,4 @@ pub mod Rounding
 pub mod Readings
 pub mod Texts
 pub mod ReadingBack
+pub mod Zeros

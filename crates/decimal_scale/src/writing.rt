@@ -27,8 +27,21 @@ pub fn real_length(value: i128, places: u32) -> usize
 {
     let size = value.unsigned_abs();
     let unit = power_of_ten(u64::from(places));
-    let whole = whole_length(value < 0, size / u128::from(unit));
-    whole + 1 + decimals_length(unit, (size % u128::from(unit)) as u64, places)
+    let (whole, part) = split(size, unit);
+    whole_length(value < 0, whole) + 1 + decimals_length(part, places)
+}
+
+/// How often a unit fits into a number, and what is left. Most numbers fit into 64 bits, where that is
+/// much faster.
+fn split(size: u128, unit: u64) -> (u128, u64)
+    requires { 0 < unit }
+    ensures whole { result.0 ≡ size / unit }
+    ensures part { result.1 ≡ size % unit }
+{
+    match u64::try_from(size) {
+        Ok(size) => (u128::from(size / unit), size % unit),
+        Err(_) => (size / u128::from(unit), (size % u128::from(unit)) as u64),
+    }
 }
 
 fn write(alloc: Global, value: i128, places: u32) -> Result<Bytes, AllocError>
@@ -61,8 +74,35 @@ fn whole_length(is_negative: bool, whole: u128) -> usize
     ensures value { result ≡ length (cond is_negative (45 ∷ []) [] ++ decimal whole) }
     ensures within { result ≤ 41 }
 {
-    let mut buffer = Buffer::new();
-    usize::from(is_negative) + buffer.format(whole).len()
+    usize::from(is_negative) + digits_in(whole)
+}
+
+/// How many digits a number has.
+fn digits_in(number: u128) -> usize
+    ensures value { result ≡ length (decimal number) }
+    ensures within { result ≤ 40 }
+{
+    match u64::try_from(number) {
+        Ok(short) => digits_in_short(short),
+        Err(_) => {
+            let mut buffer = Buffer::new();
+            buffer.format(number).len()
+        }
+    }
+}
+
+/// How many digits a number of 64 bits has.
+fn digits_in_short(number: u64) -> usize
+    ensures value { result ≡ length (decimal number) }
+    ensures within { result ≤ 20 }
+{
+    let mut rest = number;
+    let mut count = 1;
+    while rest >= 10 {
+        rest /= 10;
+        count += 1;
+    }
+    count
 }
 
 /// Adds the decimals of a part of a unit, which is a power of ten.
@@ -78,17 +118,54 @@ fn push_decimals(text: &mut Vec<u8>, unit: u64, part: u64, places: u32) -> Resul
     text.extend_from_slice(significant(decimals))
 }
 
-/// How many decimals of a part of a unit are written.
-fn decimals_length(unit: u64, part: u64, places: u32) -> usize
-    requires unit { unit ≡ 10 ^ places }
+/// How many decimals of a part of a unit are written, which has so many places.
+fn decimals_length(part: u64, places: u32) -> usize
     requires places { (1 ≤ places) × (places ≤ 15) }
-    requires part { part < unit }
+    requires part { part < 10 ^ places }
     ensures value { result ≡ length (without_zeros (last_digits places part)) }
-    ensures within { result ≤ 40 }
+    ensures within { result ≤ 15 }
 {
-    let mut buffer = Buffer::new();
-    let decimals = &buffer.format(unit + part).as_bytes()[1..];
-    significant(decimals).len()
+    if part == 0 {
+        return 1;
+    }
+    let (rest, count) = before_thousands(part, places);
+    decimals_kept(rest, count) as usize
+}
+
+/// A part of a unit and its places, without zeros behind it, three at a time.
+fn before_thousands(part: u64, places: u32) -> (u64, u32)
+    requires some { 0 < part }
+    requires part { part < 10 ^ places }
+    requires places { places ≤ 15 }
+    ensures some { 0 < result.0 }
+    ensures part { result.0 < 10 ^ result.1 }
+    ensures places { result.1 ≤ places }
+    ensures same { length (without_zeros (last_digits result.1 result.0)) ≡ length (without_zeros (last_digits places part)) }
+{
+    let mut rest = part;
+    let mut count = places;
+    while rest % 1000 == 0 {
+        rest /= 1000;
+        count -= 3;
+    }
+    (rest, count)
+}
+
+/// The places of a part of a unit, without the zeros behind it.
+fn decimals_kept(part: u64, places: u32) -> u32
+    requires some { 0 < part }
+    requires part { part < 10 ^ places }
+    requires places { places ≤ 15 }
+    ensures value { result ≡ length (without_zeros (last_digits places part)) }
+    ensures within { result ≤ 15 }
+{
+    let mut rest = part;
+    let mut count = places;
+    while rest % 10 == 0 {
+        rest /= 10;
+        count -= 1;
+    }
+    count
 }
 
 /// Digits without the zeros behind them, but at least one digit.

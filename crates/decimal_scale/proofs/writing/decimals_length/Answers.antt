@@ -1,31 +1,8 @@
-use Rattle.std.proofs.Common.{◌^◌, ◌≤◌, ◌<◌, List, ℕ, length, sym, ap, subst, ◌∙◌, arith}
-use Rattle.decimal_scale.specs.Writing.{last_digits, without_zeros}
-use Rattle.decimal_scale.proofs.Powers.{power_at_least}
-use Rattle.decimal_scale.proofs.Texts.{behind_unit, length-last_digits}
+use Rattle.std.proofs.Common.{◌≡◌, sym, arith}
+use Rattle.decimal_scale.proofs.Zeros.{zero_kept}
 use Rattle.decimal_scale.proofs.writing.decimals_length.Goals as goal
 
-pub overflow_add-unit : goal.overflow_add-unit
-overflow_add-unit c =
-    let most : 10 ^ c.args.places ≤ 10 ^ 15 = power_at_least c.args.places 15 c.requires.places.1 in
-    omega arith
-
-pub slice_bounds-decimals-count : goal.slice_bounds-decimals-count
-slice_bounds-decimals-count c =
-    let text = behind_unit c.as_bytes.result.now c.args.unit c.args.part c.args.places c.requires.unit c.requires.places.1 c.requires.part (c.as_bytes.ensures.value ∙ c.format.ensures.text) in
-    omega (arith, text.0)
-
-pub slice_bounds-decimals-start : goal.slice_bounds-decimals-start
-slice_bounds-decimals-start c =
-    let text = behind_unit c.as_bytes.result.now c.args.unit c.args.part c.args.places c.requires.unit c.requires.places.1 c.requires.part (c.as_bytes.ensures.value ∙ c.format.ensures.text) in
-    omega (arith, text.0)
-
-pub significant-requires : goal.significant-requires
-significant-requires c =
-    let text = behind_unit c.as_bytes.result.now c.args.unit c.args.part c.args.places c.requires.unit c.requires.places.1 c.requires.part (c.as_bytes.ensures.value ∙ c.format.ensures.text) in
-    let some : 0 < length (last_digits c.args.places c.args.part) = omega (arith, length-last_digits c.args.places c.args.part) in
-    subst (λ (ds : List ℕ). 0 < length ds) (sym text.1) some
-
-pub returns-clause-value : goal.returns-clause-value
-returns-clause-value c =
-    let text = behind_unit c.as_bytes.result.now c.args.unit c.args.part c.args.places c.requires.unit c.requires.places.1 c.requires.part (c.as_bytes.ensures.value ∙ c.format.ensures.text) in
-    ap (λ (ds : List ℕ). length ds) (c.significant.ensures ∙ ap without_zeros text.1)
+pub returns-then-part-eq0-clause-value : goal.returns-then-part-eq0-clause-value
+returns-then-part-eq0-clause-value c =
+    let none : c.args.part ≡ 0 = omega (arith, c.if-part-eq0.true) in
+    rw none (sym (zero_kept c.args.places (omega (arith, c.requires.places.0))))
