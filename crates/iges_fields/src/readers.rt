@@ -1,11 +1,14 @@
-ghost use Rattle.std.specs.Prelude.{◌≡◌, false};
+ghost use Rattle.std.specs.Prelude.{◌≡◌, ◌≤◌, ◌-◌, ◌∷◌, length, take, false, IfSome};
+ghost use Rattle.solid_base.specs.Spelling.{behind_sign, digit_count, behind_digits, behind_blanks};
+ghost use Rattle.iges_fields.specs.Delimiters.{AreDelimiters};
+ghost use Rattle.iges_fields.specs.Grammar.{delimiter, IsField};
 ghost use Rattle.iges_fields.specs.Reading.{delimited, text_at, word_at, content_at, field_at};
-ghost use Rattle.iges_fields.specs.Readers.{Gives};
+ghost use Rattle.iges_fields.specs.Readers.{Gives, reading_of};
 
 use crate::faults::FieldFault;
 use crate::kinds::{Field, FieldKind};
 use crate::scan;
-use solid_base::{behind_blanks, digit_count, number_up_to};
+use solid_base::{after_sign, behind_blanks, digit_count, number_up_to};
 use std::marker::Model;
 
 /// A field, what stands behind its delimiter, and whether that delimiter ends the record.
@@ -76,11 +79,93 @@ fn content_at<'a>(bytes: &'a [u8], comma: u8, semi: u8) -> Result<Found<'a>, Fie
     }
 }
 
-#[tactic(auto, unfolding(crate::specs::Reading::field_at))]
+/// The field up to `end`, a part of the bytes behind its content, where a delimiter stands.
+fn ended_at<'a>(
+    kind: FieldKind,
+    bytes: &'a [u8],
+    end: &'a [u8],
+    comma: u8,
+    semi: u8,
+) -> Option<Found<'a>>
+    requires { length end.now ≤ length bytes.now }
+    ensures kind { IfSome result (λ found. found.field.kind ≡ kind) }
+    ensures text { IfSome result (λ found. found.field.text.now ≡ take (length bytes.now - length end.now) bytes.now) }
+    ensures ended { IfSome result (λ found. end.now ≡ delimiter comma semi found.ended ∷ found.rest.now) }
+{
+    let text = &bytes[..bytes.len() - end.len()];
+    let field = Field { kind, text };
+    match end {
+        [b, rest @ ..] if *b == comma => Some(Found {
+            field,
+            rest,
+            ended: false,
+        }),
+        [b, rest @ ..] if *b == semi => Some(Found {
+            field,
+            rest,
+            ended: true,
+        }),
+        _ => None,
+    }
+}
+
+/// The number that stands here without an exponent and right before a delimiter, as most numbers do.
+/// Its bytes are looked at once.
+fn number_at<'a>(bytes: &'a [u8], comma: u8, semi: u8) -> Option<Found<'a>>
+    ensures { IfSome result (λ found. IsField comma semi bytes.now (reading_of found)) }
+{
+    let number = after_sign(bytes);
+    let whole = digit_count(number);
+    let behind = &number[whole..];
+    match behind {
+        [b'.', rest @ ..] => real_at(bytes, whole, rest, comma, semi),
+        _ if whole != 0 => ended_at(FieldKind::Whole, bytes, behind, comma, semi),
+        _ => None,
+    }
+}
+
+/// The real number that stands here, with so many digits and a point before `rest`.
+fn real_at<'a>(
+    bytes: &'a [u8],
+    whole: usize,
+    rest: &'a [u8],
+    comma: u8,
+    semi: u8,
+) -> Option<Found<'a>>
+    requires whole { whole ≡ digit_count (behind_sign bytes.now) }
+    requires rest { behind_digits (behind_sign bytes.now) ≡ 46 ∷ rest.now }
+    ensures { IfSome result (λ found. IsField comma semi bytes.now (reading_of found)) }
+{
+    let count = digit_count(rest);
+    if whole == 0 && count == 0 {
+        return None;
+    }
+    ended_at(FieldKind::Real, bytes, &rest[count..], comma, semi)
+}
+
 fn field_at<'a>(text: &'a [u8], comma: u8, semi: u8) -> Result<Found<'a>, FieldFault>
+    requires { AreDelimiters comma semi }
     ensures { Gives result (field_at comma semi text.now) }
 {
-    content_at(behind_blanks(text), comma, semi)
+    let content = behind_blanks(text);
+    match number_at(content, comma, semi) {
+        Some(found) => Ok(found),
+        None => field_behind(text, content, comma, semi),
+    }
+}
+
+/// The field that a text begins with, the content of which begins here.
+#[tactic(auto, unfolding(crate::specs::Reading::field_at))]
+fn field_behind<'a>(
+    text: &'a [u8],
+    content: &'a [u8],
+    comma: u8,
+    semi: u8,
+) -> Result<Found<'a>, FieldFault>
+    requires { content.now ≡ behind_blanks text.now }
+    ensures { Gives result (field_at comma semi text.now) }
+{
+    content_at(content, comma, semi)
 }
 
 /// A reader of the fields of a record's text, which it borrows.
@@ -99,11 +184,14 @@ pub struct Fields<'a> {
 }
 
 impl<'a> Model for Fields<'a> {
+    ghost use Rattle.iges_fields.specs.Delimiters.{AreDelimiters};
     ghost use Rattle.iges_fields.specs.Readers.{Reader};
 
     ghost Value = { Reader };
 
     ghost view = { λ f. record { rest = f.rest.now; comma = f.comma; semi = f.semi; ended = f.ended } };
+
+    ghost invariant = { λ f. AreDelimiters f.comma f.semi };
 }
 
 impl<'a> Fields<'a> {
