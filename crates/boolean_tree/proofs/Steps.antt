@@ -60,6 +60,12 @@ operation_of i (inl e) = (union, e)
 operation_of i (inr (inl e)) = (intersection, e)
 operation_of i (inr (inr e)) = (difference, e)
 
+pub not_operand : (i : Item) → ((e : ℕ) → i ≡ item.Operand e → ⊥) → (o : Operation) × (i ≡ item_of o)
+not_operand (item.Operand e) h = absurd (h e refl)
+not_operand item.Join h = (union, refl)
+not_operand item.Meet h = (intersection, refl)
+not_operand item.Less h = (difference, refl)
+
 -- an operation leaves one tree in place of two
 pub operation_next : (items : List Item) (at count : ℕ) (d : Item) (o : Operation) → at < length items → get_or items at d ≡ item_of o → 2 ≤ count → AreTrees items at count → AreTrees items (at + 1) (count - 1)
 operation_next items at count d o room is two h =
