@@ -8,7 +8,8 @@ use Rattle.fixed_enclosure.specs.Spans.{Span, Every, Between, IsSpan, enc_bound,
 use Rattle.fixed_enclosure.specs.Values.{unit, bounded, point_of, sum_of, minus_of, times_of, square_of, narrow_of, floor_over, ceil_over, least, greatest, is_round_zero}
 use Rattle.fixed_enclosure.proofs.SpanProducts.{square_of-is}
 use Rattle.fixed_enclosure.proofs.SpanSums.{sum_of-is}
-use Rattle.csg_primitives.specs.WrittenFrames.{Span3, point_spans, three_sum, dot_span, turn_span, cross_spans, squared_length_span, along_x, along_z, is_between, AreKnown, frame_spans}
+use Rattle.fixed_enclosure.specs.Places.{Span3, point_spans, three_sum, dot_span}
+use Rattle.csg_primitives.specs.WrittenFrames.{turn_span, cross_spans, squared_length_span, along_x, along_z, is_between, AreKnown, frame_spans}
 
 -- ---- spans of units
 in_range : (bound : ℕ) (lo hi : ℤ) → neg_ℤ (pos bound) ≤ℤ lo → hi ≤ℤ pos bound → bounded bound lo hi ≡ Between lo hi

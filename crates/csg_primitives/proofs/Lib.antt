@@ -9,6 +9,7 @@ pub mod Squaring
 pub mod MarginsHold
 pub mod RootMargins
 pub mod RatioMargins
+pub mod BeyondAxes
 pub mod Soundness
 pub mod PointSpans
 pub mod StraightAxes

@@ -12,12 +12,14 @@ use Rattle.csg_primitives.specs.Classes.{is_positive, is_negative, exact_class}
 use Rattle.csg_primitives.specs.Margins.{square}
 use Rattle.csg_primitives.specs.Frames.{squared_length}
 use Rattle.csg_primitives.specs.ExactMargins.{between, slant_margin, block_margins, wedge_margins, cylinder_margins, ball_margins}
-use Rattle.csg_primitives.specs.WrittenFrames.{Span3, squared_length_span}
+use Rattle.fixed_enclosure.specs.Places.{Span3, SpansHold}
+use Rattle.csg_primitives.specs.WrittenFrames.{squared_length_span}
 use Rattle.csg_primitives.specs.WrittenMargins.{span_class, below_span, between_spans, slant_span, within_span, block_spans, wedge_spans, cylinder_spans, ball_spans}
 use Rattle.csg_primitives.proofs.Classes.{positive_in, negative_in, exact_inside, exact_outside}
 use Rattle.csg_primitives.proofs.Pairwise.{Pairwise, any_along, all_along}
 use Rattle.csg_primitives.proofs.SpanClasses.{is_negative_span, is_positive_span, negative_out, positive_out, outside_out, inside_out}
-use Rattle.csg_primitives.proofs.SpansHold.{SpansHold, recount, point_at, point_once, squared_length_span-holds}
+use Rattle.fixed_enclosure.proofs.PlacesHold.{recount, point_at, point_once}
+use Rattle.csg_primitives.proofs.SpansHold.{squared_length_span-holds}
 
 -- ---- a sign tells of a number
 abbrev pub Tells : Span → ℤ → Type 0

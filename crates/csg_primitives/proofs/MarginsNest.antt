@@ -15,11 +15,13 @@ use Rattle.fixed_enclosure.specs.declared.enclosures.Sign.TheVariants.{Negative,
 use Rattle.fixed_enclosure.specs.Spans.{Span, IsBox, IsBoxIn, enc_bound, area_bound}
 use Rattle.fixed_enclosure.specs.Values.{unit, point_of, root_of, ratio_of, sign_of}
 use Rattle.fixed_enclosure.proofs.SpanSigns.{sign_of-in}
-use Rattle.csg_primitives.specs.WrittenFrames.{Span3, spans_of, height_span, squared_radius_span}
+use Rattle.fixed_enclosure.specs.Places.{Span3, spans_of, Nested, AreNested}
+use Rattle.csg_primitives.specs.WrittenFrames.{height_span, squared_radius_span}
 use Rattle.csg_primitives.specs.WrittenMargins.{span_class, written_margins, written_class, below_span, between_spans, slant_span, within_span, cone_span, torus_sum_span, torus_span, less_ratio, ellipsoid_span, block_spans, wedge_spans}
 use Rattle.csg_primitives.proofs.Pairwise.{Pairwise, any_along, all_along}
 use Rattle.csg_primitives.proofs.SpanClasses.{is_negative_span, is_positive_span, negative_out, negative_in, positive_out, positive_in, outside_out, outside_in, inside_out, inside_in}
-use Rattle.csg_primitives.proofs.SpansNest.{Nested, AreNested, point-nested, length-nested, sum-nested, minus-nested, times-nested, square-nested, root-nested, ratio-nested, offset_spans-nested, squared_length_span-nested, height_span-nested, squared_radius_span-nested, local_spans-nested}
+use Rattle.fixed_enclosure.proofs.PlacesNest.{point-nested, length-nested, sum-nested, minus-nested, times-nested, square-nested, root-nested, ratio-nested, offset_spans-nested}
+use Rattle.csg_primitives.proofs.SpansNest.{squared_length_span-nested, height_span-nested, squared_radius_span-nested, local_spans-nested}
 
 -- ---- a sign that is shown stays
 abbrev Decides : Span → Span → Type 0

@@ -12,7 +12,8 @@ use Rattle.fixed_enclosure.proofs.SpanSums.{sum_of-points, minus_of-points}
 use Rattle.fixed_enclosure.proofs.SpanProducts.{times_of-points}
 use Rattle.fixed_enclosure.proofs.SpanQuotients.{narrow_of-exact}
 use Rattle.csg_primitives.specs.Frames.{cross, squared_length}
-use Rattle.csg_primitives.specs.WrittenFrames.{point_spans, three_sum, dot_span, turn_span, cross_spans, squared_length_span}
+use Rattle.fixed_enclosure.specs.Places.{point_spans, three_sum, dot_span}
+use Rattle.csg_primitives.specs.WrittenFrames.{turn_span, cross_spans, squared_length_span}
 
 -- ---- the calls of fixed_enclosure
 bounded_point : (bound : ℕ) (v : ℤ) → IsWithin bound v → bounded bound v v ≡ point_of v

@@ -13,9 +13,9 @@ use Rattle.fixed_enclosure.proofs.SpanQuotients.{ratio_of-holds}
 use Rattle.fixed_enclosure.proofs.SpanSigns.{sign_of-positive, sign_of-negative}
 use Rattle.csg_primitives.specs.Margins.{square}
 use Rattle.csg_primitives.specs.ExactMargins.{ellipsoid_margins}
-use Rattle.csg_primitives.specs.WrittenFrames.{Span3}
+use Rattle.fixed_enclosure.specs.Places.{Span3, SpansHold}
 use Rattle.csg_primitives.specs.WrittenMargins.{less_ratio, ellipsoid_span, ellipsoid_spans}
-use Rattle.csg_primitives.proofs.SpansHold.{SpansHold, recount, point_once}
+use Rattle.fixed_enclosure.proofs.PlacesHold.{recount, point_once}
 use Rattle.csg_primitives.proofs.MarginsHold.{ClassTells, margins-tell}
 use Rattle.csg_primitives.proofs.Squaring.{product_square, positive_out_of, negative_out_of, uncut, cut-square}
 

@@ -19,7 +19,7 @@ use Rattle.csg_primitives.specs.WrittenMargins.{below_span, cone_span, torus_sum
 use Rattle.csg_primitives.proofs.Classes.{positive_in, negative_in, exact_inside, exact_outside}
 use Rattle.csg_primitives.proofs.Pairwise.{all_along}
 use Rattle.csg_primitives.proofs.SpanClasses.{is_negative_span, is_positive_span, negative_out, positive_out, outside_out, inside_out}
-use Rattle.csg_primitives.proofs.SpansHold.{recount, point_once}
+use Rattle.fixed_enclosure.proofs.PlacesHold.{recount, point_once}
 use Rattle.csg_primitives.proofs.MarginsHold.{ClassTells, held-tells, margins-tell, negative_tells, below-holds, multiple-holds, squares_above, radius-holds}
 use Rattle.csg_primitives.proofs.Squaring.{root_below, root_above, ceil_root-zero, floor_root-below, beyond, sum_from_zero}
 

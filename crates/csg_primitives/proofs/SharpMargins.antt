@@ -13,9 +13,10 @@ use Rattle.fixed_enclosure.specs.Spans.{Span, box_of, enc_bound, area_bound}
 use Rattle.fixed_enclosure.specs.Values.{point_of, sign_of}
 use Rattle.csg_primitives.specs.Classes.{is_positive, is_negative, exact_class}
 use Rattle.csg_primitives.specs.Margins.{square}
-use Rattle.csg_primitives.specs.Frames.{offset, cross, squared_length, height as tall, squared_radius, local_place, axis_parts, local_parts}
+use Rattle.fixed_enclosure.specs.Places.{offset, point_spans, offset_spans}
+use Rattle.csg_primitives.specs.Frames.{cross, squared_length, height as tall, squared_radius, local_place, axis_parts, local_parts}
 use Rattle.csg_primitives.specs.ExactMargins.{between, slant_margin, block_margins, wedge_margins, cylinder_margins, ball_margins, exact_margins, primitive_class}
-use Rattle.csg_primitives.specs.WrittenFrames.{point_spans, offset_spans, height_span, squared_radius_span, local_spans}
+use Rattle.csg_primitives.specs.WrittenFrames.{height_span, squared_radius_span, local_spans}
 use Rattle.csg_primitives.specs.WrittenMargins.{span_class, below_span, between_spans, slant_span, within_span, block_spans, wedge_spans, cylinder_spans, ball_spans, written_margins, written_class}
 use Rattle.csg_primitives.specs.Sharpness.{IsSharp, point_cube}
 use Rattle.csg_primitives.proofs.Pairwise.{Pairwise}

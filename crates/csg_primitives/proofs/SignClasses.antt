@@ -44,3 +44,18 @@ six_class a b c d e f =
 pub wedge_class : (a c d e f s : Sign) → sign_class (both_signs (both_signs (both_signs a (both_signs c d)) (both_signs e f)) s ∷ []) ≡ sign_class (a ∷ c ∷ d ∷ e ∷ f ∷ s ∷ [])
 wedge_class a c d e f s =
     both_class (both_signs (both_signs a (both_signs c d)) (both_signs e f)) s [] ∙ pair_class (both_signs a (both_signs c d)) e f (s ∷ []) ∙ pair_class a c d (e ∷ f ∷ s ∷ [])
+
+-- where the faces along the local Z axis tell Negative, the other margins don't matter
+beside_negative : (a : Sign) → both_signs a Negative ≡ Negative
+unfolding both_signs
+beside_negative Negative = refl
+beside_negative Positive = refl
+beside_negative Open = refl
+
+pub six_decide : (a b c d e f : Sign) → both_signs e f ≡ Negative → Outside ≡ sign_class (a ∷ b ∷ c ∷ d ∷ e ∷ f ∷ [])
+unfolding sign_class
+six_decide a b c d e f h = let t = six_class a b c d e f in rw (h, beside_negative (both_signs (both_signs a b) (both_signs c d))) at t
+
+pub wedge_decide : (a c d e f s : Sign) → both_signs e f ≡ Negative → Outside ≡ sign_class (a ∷ c ∷ d ∷ e ∷ f ∷ s ∷ [])
+unfolding sign_class both_signs
+wedge_decide a c d e f s h = let t = wedge_class a c d e f s in rw (h, beside_negative (both_signs a (both_signs c d))) at t

@@ -8,11 +8,12 @@ use Rattle.solid_base.specs.declared.solids.Primitive.TheVariants as prim
 use Rattle.solid_base.specs.Ranges.{IsLawfulPrim}
 use Rattle.fixed_enclosure.specs.declared.enclosures.Box3.{Box3}
 use Rattle.fixed_enclosure.specs.Spans.{BoxHolds}
-use Rattle.csg_primitives.specs.Frames.{cross, offset, squared_length, squared_radius, axis_parts, local_parts}
+use Rattle.fixed_enclosure.specs.Places.{offset, Span3, spans_of, SpansHold}
+use Rattle.csg_primitives.specs.Frames.{cross, squared_length, squared_radius, axis_parts, local_parts}
 use Rattle.csg_primitives.specs.ExactMargins.{exact_margins, primitive_class}
-use Rattle.csg_primitives.specs.WrittenFrames.{Span3, spans_of}
 use Rattle.csg_primitives.specs.WrittenMargins.{written_margins, written_class}
-use Rattle.csg_primitives.proofs.SpansHold.{SpansHold, offset_spans-hold, height_span-holds, squared_radius_span-holds, local_spans-hold}
+use Rattle.fixed_enclosure.proofs.PlacesHold.{offset_spans-hold}
+use Rattle.csg_primitives.proofs.SpansHold.{height_span-holds, squared_radius_span-holds, local_spans-hold}
 use Rattle.csg_primitives.proofs.MarginsHold.{ClassTells, block-tells, wedge-tells, cylinder-tells, ball-tells}
 use Rattle.csg_primitives.proofs.RootMargins.{cone-tells, torus-tells}
 use Rattle.csg_primitives.proofs.RatioMargins.{ellipsoid-tells}

@@ -7,7 +7,8 @@ use Rattle.csg_primitives.specs.Classes.{exact_class}
 use Rattle.solid_base.specs.declared.solids.Primitive.{Primitive}
 use Rattle.solid_base.specs.declared.solids.Primitive.TheVariants as prim
 use Rattle.fixed_enclosure.specs.declared.enclosures.Sign.TheVariants.{Negative, Positive, Open}
-use Rattle.csg_primitives.specs.Frames.{offset, cross, height, squared_radius, local_place}
+use Rattle.fixed_enclosure.specs.Places.{offset}
+use Rattle.csg_primitives.specs.Frames.{cross, height, squared_radius, local_place}
 use Rattle.csg_primitives.specs.ExactMargins.{exact_margins, primitive_class}
 use Rattle.csg_primitives.specs.WrittenMargins.{sign_class}
 

@@ -8,8 +8,9 @@ use Rattle.solid_base.specs.Ranges.{dot, IsUnit}
 use Rattle.fixed_enclosure.specs.Spans.{enc_bound}
 use Rattle.fixed_enclosure.specs.Values.{unit, point_of, minus_of}
 use Rattle.fixed_enclosure.proofs.Spans.{add_scaled}
-use Rattle.csg_primitives.specs.Frames.{offset, cross, squared_length, height, squared_radius, local_place, axis_parts, local_parts}
-use Rattle.csg_primitives.specs.WrittenFrames.{point_spans, offset_spans, height_span, squared_radius_span, local_spans}
+use Rattle.fixed_enclosure.specs.Places.{offset, point_spans, offset_spans}
+use Rattle.csg_primitives.specs.Frames.{cross, squared_length, height, squared_radius, local_place, axis_parts, local_parts}
+use Rattle.csg_primitives.specs.WrittenFrames.{height_span, squared_radius_span, local_spans}
 use Rattle.csg_primitives.specs.Sharpness.{IsWholeUnit, IsStraight}
 use Rattle.csg_primitives.proofs.PointSpans.{in_units, point_minus, dot_points, cross_points, squared_length_points, less_scaled}
 

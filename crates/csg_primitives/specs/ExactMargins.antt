@@ -6,7 +6,8 @@ use Rattle.solid_base.specs.declared.solids.Primitive.{Primitive}
 use Rattle.solid_base.specs.declared.solids.Primitive.TheVariants as prim
 use Rattle.csg_primitives.specs.Classes.{exact_class}
 use Rattle.csg_primitives.specs.Margins.{square}
-use Rattle.csg_primitives.specs.Frames.{offset, squared_length, height, squared_radius, local_place, axis_parts, local_parts}
+use Rattle.fixed_enclosure.specs.Places.{offset}
+use Rattle.csg_primitives.specs.Frames.{squared_length, height, squared_radius, local_place, axis_parts, local_parts}
 
 -- solidd's own: how far a coordinate lies above 0, and below a length
 abbrev pub between : ℕ → ℤ → ℤ → List ℤ → List ℤ

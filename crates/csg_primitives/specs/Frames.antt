@@ -3,10 +3,7 @@ use Rattle.std.specs.Prelude.{ℕ, ◌*◌, ℤ, pos, ◌-ℤ◌, ◌*ℤ◌}
 use Rattle.solid_base.specs.declared.geometry.Vec3.{Vec3}
 use Rattle.solid_base.specs.Ranges.{dot}
 use Rattle.fixed_enclosure.specs.Values.{unit}
-
--- solidd's own: the way from a corner, a foot or a centre to a place
-unfoldable pub offset : ℕ → Vec3 → Vec3 → Vec3
-offset m from p = record { x = p.x -ℤ from.x *ℤ pos m; y = p.y -ℤ from.y *ℤ pos m; z = p.z -ℤ from.z *ℤ pos m }
+use Rattle.fixed_enclosure.specs.Places.{offset}
 
 -- solidd's own: the vector product of two directions
 unfoldable pub cross : Vec3 → Vec3 → Vec3

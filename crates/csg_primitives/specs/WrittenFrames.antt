@@ -1,39 +1,9 @@
 -- Enclosed places in the local axes of a primitive: what a box of places may have as coordinates, computed in spans.
-use Rattle.fixed_enclosure.specs.declared.enclosures.Box3.{Box3}
 use Rattle.solid_base.specs.declared.geometry.Vec3.{Vec3}
 use Rattle.std.specs.Prelude.{◌≡◌, pos, Bool, true, false}
-use Rattle.fixed_enclosure.specs.Spans.{Span, Every, Between, enc_span, enc_bound, area_bound}
-use Rattle.fixed_enclosure.specs.Values.{unit, point_of, sum_of, minus_of, times_of, square_of, narrow_of}
-
--- solidd's own: the coordinates of a place or a direction, each of them as a span
-pub record Span3 : Type 0 where
-  pub x : Span
-  pub y : Span
-  pub z : Span
-
--- solidd's own: the coordinates of a box
-abbrev pub spans_of : Box3 → Span3
-spans_of b = record { x = enc_span b.x; y = enc_span b.y; z = enc_span b.z }
-
--- solidd's own: the coordinates of one point or one direction
-abbrev pub point_spans : Vec3 → Span3
-point_spans p = record { x = point_of p.x; y = point_of p.y; z = point_of p.z }
-
--- solidd's own: the way from a corner, a foot or a centre to a place
-unfoldable pub offset_spans : Span3 → Vec3 → Span3
-offset_spans p from = record {
-  x = minus_of enc_bound p.x (point_of from.x);
-  y = minus_of enc_bound p.y (point_of from.y);
-  z = minus_of enc_bound p.z (point_of from.z);
-}
-
--- solidd's own: the sum of three areas, from left to right
-unfoldable pub three_sum : Span → Span → Span → Span
-three_sum a b c = sum_of area_bound (sum_of area_bound a b) c
-
--- solidd's own: the scalar product, over a unit
-unfoldable pub dot_span : Span3 → Span3 → Span
-dot_span a b = narrow_of (three_sum (times_of a.x b.x) (times_of a.y b.y) (times_of a.z b.z))
+use Rattle.fixed_enclosure.specs.Spans.{Span, Every, Between, area_bound}
+use Rattle.fixed_enclosure.specs.Values.{unit, minus_of, times_of, square_of, narrow_of}
+use Rattle.fixed_enclosure.specs.Places.{Span3, point_spans, offset_spans, three_sum, dot_span}
 
 -- solidd's own: the difference of the products of two lengths each, over a unit
 unfoldable pub turn_span : Span → Span → Span → Span → Span

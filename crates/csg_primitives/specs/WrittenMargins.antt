@@ -11,7 +11,8 @@ use Rattle.fixed_enclosure.specs.declared.enclosures.Sign.{Sign}
 use Rattle.fixed_enclosure.specs.declared.enclosures.Sign.TheVariants.{Negative, Positive, Open}
 use Rattle.fixed_enclosure.specs.Spans.{Span, enc_bound, area_bound}
 use Rattle.fixed_enclosure.specs.Values.{unit, point_of, sum_of, minus_of, times_of, square_of, root_of, ratio_of, sign_of}
-use Rattle.csg_primitives.specs.WrittenFrames.{Span3, spans_of, offset_spans, squared_length_span, height_span, squared_radius_span, local_spans}
+use Rattle.fixed_enclosure.specs.Places.{Span3, spans_of, offset_spans}
+use Rattle.csg_primitives.specs.WrittenFrames.{squared_length_span, height_span, squared_radius_span, local_spans}
 
 -- ---- the class
 

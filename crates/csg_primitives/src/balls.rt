@@ -1,7 +1,7 @@
 ghost use Rattle.std.specs.Prelude.{◌≡◌};
 ghost use Rattle.solid_base.specs.Ranges.{IsSize};
 ghost use Rattle.fixed_enclosure.specs.Spans.{area_span, IsArea, IsBox};
-ghost use Rattle.csg_primitives.specs.WrittenFrames.{spans_of};
+ghost use Rattle.fixed_enclosure.specs.Places.{spans_of};
 ghost use Rattle.csg_primitives.specs.WrittenMargins.{span_class, within_span, ball_spans};
 
 use super::frames::squared_length;

@@ -1,10 +1,11 @@
 ghost use Rattle.std.specs.Prelude.{◌≡◌, true};
-ghost use Rattle.solid_base.specs.Range.{IsWithin, IsPointWithin, far};
-ghost use Rattle.fixed_enclosure.specs.Spans.{enc_span, area_span, enc_bound, area_bound, IsEnc, IsArea, IsBox};
-ghost use Rattle.fixed_enclosure.specs.Values.{point_of, minus_of, sum_of, square_of};
-ghost use Rattle.csg_primitives.specs.WrittenFrames.{spans_of, point_spans, offset_spans, three_sum, dot_span, turn_span, cross_spans, squared_length_span, height_span, squared_radius_span, local_spans, frame_spans, along_x, along_z, AreKnown};
+ghost use Rattle.solid_base.specs.Range.{IsPointWithin, far};
+ghost use Rattle.fixed_enclosure.specs.Spans.{enc_span, area_span, area_bound, IsEnc, IsArea, IsBox};
+ghost use Rattle.fixed_enclosure.specs.Values.{sum_of, square_of};
+ghost use Rattle.fixed_enclosure.specs.Places.{spans_of, point_spans, dot_span};
+ghost use Rattle.csg_primitives.specs.WrittenFrames.{cross_spans, squared_length_span, height_span, squared_radius_span, local_spans, frame_spans, along_x, along_z, AreKnown};
 
-use fixed_enclosure::{Area, Box3, Enc, area_minus, area_sum, minus, narrow, square, times};
+use fixed_enclosure::{Area, Box3, Enc, area_sum, dot, offset, point_box, square, three_sum, turn};
 use solid_base::{U, Vec3};
 
 /// The coordinates of places along the local axes `u`, `w` × `u` and `w`, from a corner or centre on.
@@ -20,8 +21,8 @@ pub(crate) fn local_box(at: &Box3, from: &Vec3, u: &Vec3, w: &Vec3) -> Box3
     in_frame(&offset(at, from), u, w)
 }
 
-// The coordinates of a way along the local axes: the way itself, where these are the model's axes.
-fn in_frame(d: &Box3, u: &Vec3, w: &Vec3) -> Box3
+/// The coordinates of a way along the local axes: the way itself, where these are the model's axes.
+pub(crate) fn in_frame(d: &Box3, u: &Vec3, w: &Vec3) -> Box3
     requires d_within { IsBox d.now }
     requires u_within { IsPointWithin far u.now }
     requires w_within { IsPointWithin far w.now }
@@ -35,6 +36,16 @@ fn in_frame(d: &Box3, u: &Vec3, w: &Vec3) -> Box3
     }
 }
 
+/// How far a way goes along an axis.
+pub(crate) fn reach(d: &Box3, axis: &Vec3) -> Enc
+    requires d_within { IsBox d.now }
+    requires axis_within { IsPointWithin far axis.now }
+    ensures value { enc_span result ≡ dot_span (spans_of d.now) (point_spans axis.now) }
+    ensures within { IsEnc result }
+{
+    fixed_enclosure::along(d, axis)
+}
+
 // The coordinates of a way along any local axes.
 fn framed(d: &Box3, u: &Vec3, w: &Vec3) -> Box3
     requires d_within { IsBox d.now }
@@ -43,11 +54,10 @@ fn framed(d: &Box3, u: &Vec3, w: &Vec3) -> Box3
     ensures value { spans_of result ≡ frame_spans u.now w.now (spans_of d.now) }
     ensures within { IsBox result }
 {
-    let (u, w) = (point_box(u), point_box(w));
     Box3 {
-        x: dot(d, &u),
-        y: dot(d, &cross(&w, &u)),
-        z: dot(d, &w),
+        x: reach(d, u),
+        y: dot(d, &cross(&point_box(w), u)),
+        z: reach(d, w),
     }
 }
 
@@ -73,8 +83,8 @@ pub(crate) fn about_axis(at: &Box3, foot: &Vec3, w: &Vec3) -> Axial
     along(&offset(at, foot), w)
 }
 
-// The height and the distance of a way: by its coordinates, where the axis is the model's Z axis.
-fn along(d: &Box3, w: &Vec3) -> Axial
+/// The height and the distance of a way: by its coordinates, where the axis is the model's Z axis.
+pub(crate) fn along(d: &Box3, w: &Vec3) -> Axial
     requires d_within { IsBox d.now }
     requires w_within { IsPointWithin far w.now }
     ensures height { enc_span result.height ≡ dot_span (spans_of d.now) (point_spans w.now) }
@@ -114,10 +124,9 @@ fn turned(d: &Box3, w: &Vec3) -> Axial
         squared_length_span (cross_spans (spans_of d.now) (point_spans w.now)) }
     ensures radius_within { IsArea result.squared_radius }
 {
-    let w = point_box(w);
     Axial {
-        height: dot(d, &w),
-        squared_radius: squared_length(&cross(d, &w)),
+        height: reach(d, w),
+        squared_radius: squared_length(&cross(d, w)),
     }
 }
 
@@ -138,89 +147,26 @@ fn is_along_x(direction: &Vec3) -> bool
     direction.x == U && direction.y == 0 && direction.z == 0
 }
 
-// Whether a direction is the Z axis of the model.
-fn is_along_z(direction: &Vec3) -> bool
+/// Whether a direction is the Z axis of the model.
+pub(crate) fn is_along_z(direction: &Vec3) -> bool
     ensures { result ≡ true → direction.now ≡ along_z }
 {
     direction.x == 0 && direction.y == 0 && direction.z == U
 }
 
-/// The way from a corner, a foot or a centre to the places of a box.
-#[tactic(auto, unfolding(crate::specs::WrittenFrames::offset_spans))]
-pub(crate) fn offset(at: &Box3, from: &Vec3) -> Box3
-    requires at_within { IsBox at.now }
-    requires from_within { IsPointWithin far from.now }
-    ensures value { spans_of result ≡ offset_spans (spans_of at.now) from.now }
+// The vector product with an axis, over a unit.
+#[tactic(auto, unfolding(crate::specs::WrittenFrames::cross_spans, crate::specs::WrittenFrames::turn_span))]
+fn cross(d: &Box3, w: &Vec3) -> Box3
+    requires d_within { IsBox d.now }
+    requires w_within { IsPointWithin far w.now }
+    ensures value { spans_of result ≡ cross_spans (spans_of d.now) (point_spans w.now) }
     ensures within { IsBox result }
 {
     Box3 {
-        x: gap(at.x, from.x),
-        y: gap(at.y, from.y),
-        z: gap(at.z, from.z),
+        x: turn(d.y, w.z, d.z, w.y),
+        y: turn(d.z, w.x, d.x, w.z),
+        z: turn(d.x, w.y, d.y, w.x),
     }
-}
-
-// The way from one coordinate to those that are enclosed.
-fn gap(x: Enc, from: i128) -> Enc
-    requires x_within { IsEnc x }
-    requires from_within { IsWithin far from }
-    ensures value { enc_span result ≡ minus_of enc_bound (enc_span x) (point_of from) }
-    ensures within { IsEnc result }
-{
-    minus(x, Enc::point(from))
-}
-
-// The box of one direction.
-fn point_box(direction: &Vec3) -> Box3
-    requires { IsPointWithin far direction.now }
-    ensures value { spans_of result ≡ point_spans direction.now }
-    ensures within { IsBox result }
-{
-    Box3 {
-        x: Enc::point(direction.x),
-        y: Enc::point(direction.y),
-        z: Enc::point(direction.z),
-    }
-}
-
-// The scalar product, over a unit.
-#[tactic(auto, unfolding(crate::specs::WrittenFrames::dot_span))]
-fn dot(a: &Box3, b: &Box3) -> Enc
-    requires a_within { IsBox a.now }
-    requires b_within { IsBox b.now }
-    ensures value { enc_span result ≡ dot_span (spans_of a.now) (spans_of b.now) }
-    ensures within { IsEnc result }
-{
-    narrow(three_sum(times(a.x, b.x), times(a.y, b.y), times(a.z, b.z)))
-}
-
-// The vector product, over a unit.
-#[tactic(auto, unfolding(crate::specs::WrittenFrames::cross_spans))]
-fn cross(a: &Box3, b: &Box3) -> Box3
-    requires a_within { IsBox a.now }
-    requires b_within { IsBox b.now }
-    ensures value { spans_of result ≡ cross_spans (spans_of a.now) (spans_of b.now) }
-    ensures within { IsBox result }
-{
-    Box3 {
-        x: turn(a.y, b.z, a.z, b.y),
-        y: turn(a.z, b.x, a.x, b.z),
-        z: turn(a.x, b.y, a.y, b.x),
-    }
-}
-
-// The difference of two products, over a unit.
-#[tactic(auto, unfolding(crate::specs::WrittenFrames::turn_span))]
-fn turn(a: Enc, b: Enc, c: Enc, d: Enc) -> Enc
-    requires a_within { IsEnc a }
-    requires b_within { IsEnc b }
-    requires c_within { IsEnc c }
-    requires d_within { IsEnc d }
-    ensures value { enc_span result ≡
-        turn_span (enc_span a) (enc_span b) (enc_span c) (enc_span d) }
-    ensures within { IsEnc result }
-{
-    narrow(area_minus(times(a, b), times(c, d)))
 }
 
 /// The square of a length.
@@ -231,16 +177,4 @@ pub(crate) fn squared_length(d: &Box3) -> Area
     ensures within { IsArea result }
 {
     three_sum(square(d.x), square(d.y), square(d.z))
-}
-
-// The sum of three areas, from left to right.
-#[tactic(auto, unfolding(crate::specs::WrittenFrames::three_sum))]
-fn three_sum(a: Area, b: Area, c: Area) -> Area
-    requires a_within { IsArea a }
-    requires b_within { IsArea b }
-    requires c_within { IsArea c }
-    ensures value { area_span result ≡ three_sum (area_span a) (area_span b) (area_span c) }
-    ensures within { IsArea result }
-{
-    area_sum(area_sum(a, b), c)
 }

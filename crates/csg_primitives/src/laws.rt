@@ -11,7 +11,7 @@ ghost use Rattle.fixed_enclosure.specs.Spans.{Span, Holds, BoxHolds, IsBox, IsBo
 ghost use Rattle.fixed_enclosure.specs.Values.{sign_of};
 ghost use Rattle.csg_primitives.specs.ExactMargins.{primitive_class};
 ghost use Rattle.csg_primitives.specs.Sharpness.{IsSharp, point_cube};
-ghost use Rattle.csg_primitives.specs.WrittenFrames.{spans_of};
+ghost use Rattle.fixed_enclosure.specs.Places.{spans_of};
 ghost use Rattle.csg_primitives.specs.WrittenMargins.{written_margins, written_class};
 
 /// The class that a box shows is that of each place in it: a place whose coordinates are counted in

@@ -5,10 +5,10 @@ ghost use Rattle.csg_primitives.specs.WrittenMargins.{written_class};
 
 use super::balls::ball_class;
 use super::ellipsoids::ellipsoid_class;
-use super::frames::{about_axis, local_box, offset};
-use super::rounds::{cone_class, cylinder_class, torus_class};
-use super::sides::{block_class, wedge_class};
-use fixed_enclosure::Box3;
+use super::frames::{about_axis, local_box};
+use super::rounds::{cone_over, cylinder_over, torus_class};
+use super::sides::{block_over, wedge_over};
+use fixed_enclosure::{Box3, offset};
 use solid_base::{Class, Ledger, Prim};
 
 /// The class of a primitive over a box: exactly one tick a call.
@@ -30,16 +30,16 @@ fn class_over(prim: &Prim, at: &Box3) -> Class
     ensures { result ≡ written_class prim.now at.now }
 {
     match prim {
-        Prim::Block { size, corner, u, w } => block_class(size, &local_box(at, corner, u, w)),
+        Prim::Block { size, corner, u, w } => block_over(size, corner, u, w, at),
         Prim::Wedge {
             size,
             ltx,
             corner,
             u,
             w,
-        } => { wedge_class(size, *ltx, &local_box(at, corner, u, w)) }
-        Prim::Cylinder { h, r, foot, w } => cylinder_class(*h, *r, &about_axis(at, foot, w)),
-        Prim::Cone { h, r1, r2, foot, w } => cone_class(*h, *r1, *r2, &about_axis(at, foot, w)),
+        } => { wedge_over(size, *ltx, corner, u, w, at) }
+        Prim::Cylinder { h, r, foot, w } => cylinder_over(*h, *r, foot, w, at),
+        Prim::Cone { h, r1, r2, foot, w } => cone_over(*h, *r1, *r2, foot, w, at),
         Prim::Sphere { r, centre } => ball_class(*r, &offset(at, centre)),
         Prim::Torus { r1, r2, centre, w } => torus_class(*r1, *r2, &about_axis(at, centre, w)),
         Prim::Ellipsoid { size, centre, u, w } => {

@@ -3,8 +3,11 @@ pub mod Spans
 pub mod SpanSums
 pub mod SpanProducts
 pub mod SpanQuotients
+pub mod Multiples
 pub mod SpanSigns
 pub mod WholeRoots
 pub mod SpanRoots
 pub mod Newton
+pub mod PlacesHold
+pub mod PlacesNest
 pub mod StandardFacts

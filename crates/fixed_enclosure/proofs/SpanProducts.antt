@@ -1,11 +1,12 @@
 -- Products and squares of spans: in range, what they hold, and that they keep containment.
-use Rattle.std.proofs.Common.{ℕ, ◌*◌, ◌≡◌, arith, Bool, true, false, if◌then◌else◌, ℤ, pos, neg_ℤ, ◌*ℤ◌, ◌≤ℤ◌, ◌<ℤ◌, refl}
+use Rattle.std.proofs.Common.{ℕ, ◌*◌, ◌≡◌, arith, Bool, true, false, if◌then◌else◌, ℤ, pos, neg_ℤ, ◌*ℤ◌, ◌≤ℤ◌, ◌<ℤ◌, refl, ◌∙◌}
 use Rattle.std.proofs.lemmas.Int.{ints, by_lt_z}
 use Rattle.std.specs.Int.{int_min, int_max}
-use Rattle.solid_base.proofs.Ring.{lines, diffs, diff-same, by_diff4, mul-le_left, mul-le_right, product_above, product_below, square_nonnegative, product_nonnegative, sign_cases, neg-mul, mul-neg}
+use Rattle.solid_base.proofs.Ring.{lines, diffs, diff-same, by_diff4, mul-le_left, mul-le_right, product_above, product_below, square_nonnegative, product_nonnegative, product_comm, sign_cases, neg-mul, mul-neg}
+use Rattle.solid_base.specs.Range.{IsWithin}
 use Rattle.fixed_enclosure.specs.Spans.{Span, Every, Between, IsSpan, Holds, IsIn, enc_bound, area_bound}
 use Rattle.fixed_enclosure.specs.Values.{times_of, square_of, bounded, point_of, least, greatest, is_round_zero, least_square, greatest_square}
-use Rattle.fixed_enclosure.proofs.Spans.{bounded-is, bounded-holds, bounded-in, zero_times}
+use Rattle.fixed_enclosure.proofs.Spans.{bounded-is, bounded-holds, bounded-in, bounded-near, zero_times}
 
 -- ---- the least and the greatest of four numbers
 least_is : (p q r s : ℤ) → (least p q r s ≤ℤ p) × (least p q r s ≤ℤ q) × (least p q r s ≤ℤ r) × (least p q r s ≤ℤ s)
@@ -60,6 +61,42 @@ pub times_of-points : (v w : ℤ) → times_of (point_of v) (point_of w) ≡ bou
 unfolding times_of
 times_of-points v w = let e = one_least (v *ℤ w) in same_ends (least (v *ℤ w) (v *ℤ w) (v *ℤ w) (v *ℤ w)) (greatest (v *ℤ w) (v *ℤ w) (v *ℤ w) (v *ℤ w)) (v *ℤ w) e.0 e.1
 
+-- ---- one of the factors is one number
+ends_of_two : (p q : ℤ) → (least p p q q ≡ int_min p q) × (greatest p p q q ≡ int_max p q)
+ends_of_two p q = (grind (arith, ints), grind (arith, ints))
+
+pub ends_in_order : (p q : ℤ) → int_min p q ≤ℤ int_max p q
+ends_in_order p q = grind (arith, ints)
+
+pub ends_within : (n : ℕ) (p q : ℤ) → IsWithin n p → IsWithin n q → IsWithin n (int_min p q) × IsWithin n (int_max p q)
+ends_within n p q h k = ((grind (arith, ints), grind (arith, ints)), (grind (arith, ints), grind (arith, ints)))
+
+same_bounded : (l g p q : ℤ) → l ≡ p → g ≡ q → bounded area_bound l g ≡ bounded area_bound p q
+same_bounded l g p q h k = rw (h, k) refl
+
+crossed_corners : (p q r s : ℤ) → (least p q r s ≡ least p r q s) × (greatest p q r s ≡ greatest p r q s)
+crossed_corners p q r s = (grind (arith, ints), grind (arith, ints))
+
+pub times_of-multiples : (lo hi f : ℤ) → IsWithin area_bound (lo *ℤ f) → IsWithin area_bound (hi *ℤ f)
+    → times_of (Between lo hi) (point_of f) ≡ Between (int_min (lo *ℤ f) (hi *ℤ f)) (int_max (lo *ℤ f) (hi *ℤ f))
+unfolding times_of
+times_of-multiples lo hi f h k =
+    let p = lo *ℤ f in
+    let q = hi *ℤ f in
+    let e = ends_of_two p q in
+    let w = ends_within area_bound p q h k in
+    same_bounded (least p p q q) (greatest p p q q) (int_min p q) (int_max p q) e.0 e.1 ∙ bounded-near area_bound (int_min p q) (int_max p q) w.0.0 w.1.1
+
+pub times_of-comm : (s t : Span) → times_of s t ≡ times_of t s
+unfolding times_of
+times_of-comm Every Every = refl
+times_of-comm Every (Between c d) = refl
+times_of-comm (Between a b) Every = refl
+times_of-comm (Between a b) (Between c d) =
+    let e = crossed_corners (a *ℤ c) (a *ℤ d) (b *ℤ c) (b *ℤ d) in
+    rw (product_comm c a, product_comm c b, product_comm d a, product_comm d b)
+    (same_bounded (least (a *ℤ c) (a *ℤ d) (b *ℤ c) (b *ℤ d)) (greatest (a *ℤ c) (a *ℤ d) (b *ℤ c) (b *ℤ d)) (least (a *ℤ c) (b *ℤ c) (a *ℤ d) (b *ℤ d)) (greatest (a *ℤ c) (b *ℤ c) (a *ℤ d) (b *ℤ d)) e.0 e.1)
+
 -- each corner of the inner spans is a product that the outer ones hold
 corners-in : (a b c d l g r t : ℤ) → a ≤ℤ l → l ≤ℤ g → g ≤ℤ b → c ≤ℤ r → r ≤ℤ t → t ≤ℤ d
     → (least (a *ℤ c) (a *ℤ d) (b *ℤ c) (b *ℤ d) ≤ℤ least (l *ℤ r) (l *ℤ t) (g *ℤ r) (g *ℤ t)) × (greatest (l *ℤ r) (l *ℤ t) (g *ℤ r) (g *ℤ t) ≤ℤ greatest (a *ℤ c) (a *ℤ d) (b *ℤ c) (b *ℤ d))
@@ -89,10 +126,10 @@ times_of-in (Between l g) (Between r t) (Between a b) (Between c d) i j h k =
     bounded-in area_bound _ _ _ _ e.0 e.1
 
 -- ---- squares
-square_above : (low x : ℤ) → pos 0 ≤ℤ low → low ≤ℤ x → (low *ℤ low) ≤ℤ (x *ℤ x)
+pub square_above : (low x : ℤ) → pos 0 ≤ℤ low → low ≤ℤ x → (low *ℤ low) ≤ℤ (x *ℤ x)
 square_above low x z h = omega (arith, lines, mul-le_left low low x z h, mul-le_right low x x h (omega (arith, lines)))
 
-square_turned : (x high : ℤ) → x ≤ℤ high → high ≤ℤ pos 0 → (high *ℤ high) ≤ℤ (x *ℤ x)
+pub square_turned : (x high : ℤ) → x ≤ℤ high → high ≤ℤ pos 0 → (high *ℤ high) ≤ℤ (x *ℤ x)
 square_turned x high h z =
     let s = square_above (neg_ℤ high) (neg_ℤ x) (omega (arith, lines)) (omega (arith, lines)) in
     omega (arith, lines, neg-mul high (neg_ℤ high), mul-neg high high, neg-mul x (neg_ℤ x), mul-neg x x)

@@ -1,10 +1,13 @@
 -- Areas over a unit, and ratios to a size: in range, what they hold, and that they keep containment.
-use Rattle.std.proofs.Common.{ℕ, ◌*◌, ◌<◌, ◌≡◌, arith, ℤ, pos, negsuc, neg_ℤ, ◌+ℤ◌, ◌*ℤ◌, ◌≤ℤ◌, ◌<ℤ◌, refl, unsigned_abs}
+use Rattle.std.proofs.Common.{ℕ, ◌+◌, ◌-◌, ◌*◌, ◌/◌, ◌^◌, ◌<◌, ◌≤◌, ◌≡◌, arith, mul-le-mul, inl, inr, ℤ, pos, negsuc, neg_ℤ, ◌+ℤ◌, ◌-ℤ◌, ◌*ℤ◌, ◌≤ℤ◌, ◌<ℤ◌, refl, nat_abs, unsigned_abs}
+use Rattle.std.specs.Int.{int_min}
 use Rattle.std.proofs.lemmas.Int.{ints, by_lt_z}
+use Rattle.std.proofs.lemmas.Bool.{cases_lt}
 use Rattle.solid_base.proofs.Ring.{lines, diffs, diff-same, by_diff3, mul-le_right, neg-mul, product_nonnegative}
+use Rattle.solid_base.specs.Range.{IsWithin}
 use Rattle.fixed_enclosure.specs.Spans.{Span, Every, Between, IsSpan, Holds, IsIn, enc_bound, area_bound}
 use Rattle.fixed_enclosure.specs.Values.{bounded, point_of, unit, floor_over, ceil_over, narrow_of, cut, ratio_of}
-use Rattle.fixed_enclosure.proofs.Spans.{bounded-is, bounded-holds, bounded-in, add_scaled, mul-le_out}
+use Rattle.fixed_enclosure.proofs.Spans.{bounded-is, bounded-holds, bounded-in, bounded-low, bounded-high, bounded-near, add_scaled, mul-le_out}
 
 -- ---- quotients by a number above 0
 floor_over_is : (z : ℤ) (n : ℕ) → 0 < n → ((floor_over z (pos n) *ℤ pos n) ≤ℤ z) × (z <ℤ (floor_over z (pos n) *ℤ pos n +ℤ pos n))
@@ -15,7 +18,7 @@ ceil_over_is : (z : ℤ) (n : ℕ) → 0 < n → z ≤ℤ (ceil_over z (pos n) *
 ceil_over_is z n h = let f = floor_over_is (neg_ℤ z) n h in omega (arith, lines, f.0, neg-mul (floor_over (neg_ℤ z) (pos n)) (pos n))
 
 -- a quotient rounded down is the greatest whole number whose product is no more
-floor_over-greatest : (w z : ℤ) (n : ℕ) → 0 < n → (w *ℤ pos n) ≤ℤ z → w ≤ℤ floor_over z (pos n)
+pub floor_over-greatest : (w z : ℤ) (n : ℕ) → 0 < n → (w *ℤ pos n) ≤ℤ z → w ≤ℤ floor_over z (pos n)
 floor_over-greatest w z n p h =
     let f = floor_over_is z n p in
     by_lt_z (floor_over z (pos n)) w
@@ -31,7 +34,7 @@ floor_over-mono z w n p h = floor_over-greatest (floor_over z (pos n)) w n p (om
 ceil_over-mono : (z w : ℤ) (n : ℕ) → 0 < n → z ≤ℤ w → ceil_over z (pos n) ≤ℤ ceil_over w (pos n)
 ceil_over-mono z w n p h = omega (arith, lines, floor_over-mono (neg_ℤ w) (neg_ℤ z) n p (omega (arith, lines)))
 
-floor-ceil : (z w : ℤ) (n : ℕ) → 0 < n → z ≤ℤ w → floor_over z (pos n) ≤ℤ ceil_over w (pos n)
+pub floor-ceil : (z w : ℤ) (n : ℕ) → 0 < n → z ≤ℤ w → floor_over z (pos n) ≤ℤ ceil_over w (pos n)
 floor-ceil z w n p h = mul-le_out (floor_over z (pos n)) (ceil_over w (pos n)) n p (omega (arith, lines, floor_over_is z n p, ceil_over_is w n p))
 
 -- ---- an area over a unit
@@ -77,10 +80,10 @@ unfolding narrow_of
 narrow_of-exact q = rw (floor_over-exact q, ceil_over-exact q) refl
 
 -- ---- cutting
-cut-within : (n : ℕ) (z : ℤ) → (neg_ℤ (pos n) ≤ℤ cut (pos n) z) × (cut (pos n) z ≤ℤ pos n)
+pub cut-within : (n : ℕ) (z : ℤ) → (neg_ℤ (pos n) ≤ℤ cut (pos n) z) × (cut (pos n) z ≤ℤ pos n)
 cut-within n z = grind (arith, ints)
 
-cut-mono : (b z w : ℤ) → z ≤ℤ w → cut b z ≤ℤ cut b w
+pub cut-mono : (b z w : ℤ) → z ≤ℤ w → cut b z ≤ℤ cut b w
 cut-mono b z w h = grind (arith, ints)
 
 cut-low : (b z : ℤ) → pos 0 ≤ℤ b → z ≤ℤ neg_ℤ b → cut b z ≡ neg_ℤ b
@@ -120,6 +123,111 @@ cut-turned b z h = grind (arith, ints)
 pub ratio-turned : (z size : ℤ) → neg_ℤ (cut (pos (2 * unit)) (floor_over (neg_ℤ z *ℤ pos unit) size)) ≡ cut (pos (2 * unit)) (ceil_over (z *ℤ pos unit) size)
 ratio-turned z size = rw (neg-mul z (pos unit)) (cut-turned (pos (2 * unit)) (floor_over (neg_ℤ (z *ℤ pos unit)) size) (omega (arith, ints)))
 
+-- the one whole number whose product is no more, by less than the divisor
+floor_over-unique : (w z : ℤ) (n : ℕ) → 0 < n → (w *ℤ pos n) ≤ℤ z → z <ℤ (w *ℤ pos n +ℤ pos n) → floor_over z (pos n) ≡ w
+floor_over-unique w z n p h k =
+    let f = floor_over_is z n p in
+    let g = floor_over-greatest w z n p h in
+    by_lt_z w (floor_over z (pos n))
+    (λ t. let m = mul-le_right (w +ℤ pos 1) (floor_over z (pos n)) (pos n) (omega (arith, lines)) (omega (arith, lines)) in
+    let e = add_scaled w (pos 1) (pos n) in
+    let o : pos 1 *ℤ pos n ≡ pos n = omega (arith, ints) in
+    absurd (omega (arith, lines)))
+    (λ t. omega (arith, lines))
+
+-- ---- ratios, as the code finds them
+-- a quotient and its divisor
+quotient_is : (a n : ℕ) → 0 < n → (a / n * n ≤ a) × (a < a / n * n + n)
+quotient_is a n p = (omega arith, omega arith)
+
+-- the quotient of no more than four times the divisor
+quotient_small : (w n : ℕ) → 0 < n → w ≤ 4 * n → w * unit / n ≤ 4 * unit
+quotient_small w n p h =
+    let d = quotient_is (w * unit) n p in
+    elim (cases_lt (4 * unit) (w * unit / n)) [
+      | inl l ↦ (let m : (4 * unit + 1) * n ≤ w * unit / n * n = mul-le-mul l (omega arith) in absurd (omega arith))
+      | inr l ↦ l
+    ]
+
+-- a number past twice the size
+pub ratio-past : (z size : ℤ) → pos 1 ≤ℤ size → (size +ℤ size) ≤ℤ z → cut (pos (2 * unit)) (floor_over (z *ℤ pos unit) size) ≡ pos (2 * unit)
+ratio-past z (pos n) p h =
+    let m = mul-le_right (pos n +ℤ pos n) z (pos unit) h (omega (arith, ints)) in
+    let e : pos (2 * unit) *ℤ pos n ≡ (pos n +ℤ pos n) *ℤ pos unit = omega (arith, ints) in
+    cut-high (pos (2 * unit)) (floor_over (z *ℤ pos unit) (pos n)) (omega (arith, ints))
+    (floor_over-greatest (pos (2 * unit)) (z *ℤ pos unit) n (omega (arith, ints)) (omega (arith, lines)))
+ratio-past z (negsuc n) p h = absurd (omega (arith, ints))
+
+pub ratio-before : (z size : ℤ) → pos 1 ≤ℤ size → z ≤ℤ neg_ℤ (size +ℤ size) → cut (pos (2 * unit)) (floor_over (z *ℤ pos unit) size) ≡ neg_ℤ (pos (2 * unit))
+ratio-before z (pos n) p h =
+    let m = mul-le_right z (neg_ℤ (pos n +ℤ pos n)) (pos unit) h (omega (arith, ints)) in
+    let e : neg_ℤ (pos (2 * unit)) *ℤ pos n ≡ neg_ℤ (pos n +ℤ pos n) *ℤ pos unit = omega (arith, ints) in
+    let f = floor_over_is (z *ℤ pos unit) n (omega (arith, ints)) in
+    cut-low (pos (2 * unit)) (floor_over (z *ℤ pos unit) (pos n)) (omega (arith, ints))
+    (mul-le_out (floor_over (z *ℤ pos unit) (pos n)) (neg_ℤ (pos (2 * unit))) n (omega (arith, ints)) (omega (arith, lines)))
+ratio-before z (negsuc n) p h = absurd (omega (arith, ints))
+
+-- a number between, by what it has more than minus twice the size
+inside : (z size : ℤ) (w n : ℕ) → 0 < n → size ≡ pos n → pos w ≡ z +ℤ (size +ℤ size) → w ≤ 4 * n
+    → cut (pos (2 * unit)) (floor_over (z *ℤ pos unit) size) ≡ pos (w * unit / n) -ℤ pos (2 * unit)
+inside z size w n p e h k =
+    let q = w * unit / n in
+    let d = quotient_is (w * unit) n p in
+    let same : z ≡ pos w -ℤ pos (2 * n) = omega (arith, ints) in
+    let x : z *ℤ pos unit ≡ pos (w * unit) -ℤ pos (2 * n * unit) = rw same (omega (arith, ints)) in
+    let y : (pos q -ℤ pos (2 * unit)) *ℤ pos n ≡ pos (q * n) -ℤ pos (2 * n * unit) = omega (arith, ints, add_scaled (pos q) (neg_ℤ (pos (2 * unit))) (pos n)) in
+    let f = floor_over-unique (pos q -ℤ pos (2 * unit)) (z *ℤ pos unit) n p (omega (arith, ints)) (omega (arith, ints)) in
+    let b = quotient_small w n p k in
+    rw (e, f) (cut-mid (pos (2 * unit)) (pos q -ℤ pos (2 * unit)) (omega (arith, ints)) (omega (arith, ints)))
+
+-- a number rounded up to sizes, from a number of sizes
+ratio-from : (z low size : ℤ) (rest n : ℕ) → 0 < n → size ≡ pos n → pos rest ≡ z *ℤ pos unit -ℤ low *ℤ size
+    → ceil_over (z *ℤ pos unit) size ≡ low +ℤ pos ((rest + (n - 1)) / n)
+ratio-from z low size rest n p e h =
+    let k = (rest + (n - 1)) / n in
+    let d = quotient_is (rest + (n - 1)) n p in
+    let w = low +ℤ pos k in
+    let t = neg-mul w (pos n) in
+    let s = add_scaled low (pos k) (pos n) in
+    let o : pos k *ℤ pos n ≡ pos (k * n) = omega (arith, ints) in
+    let g = rw e at h in
+    let f = floor_over-unique (neg_ℤ w) (neg_ℤ (z *ℤ pos unit)) n p (omega (arith, lines)) (omega (arith, lines)) in
+    rw (e, f) (neg_twice w)
+
+cut-least : (b z : ℤ) → pos 0 ≤ℤ b → neg_ℤ b ≤ℤ z → int_min z b ≡ cut b z
+cut-least b z k h = grind (arith, ints)
+
+near : (z low size : ℤ) (rest n : ℕ) → 0 < n → size ≡ pos n → pos rest ≡ z *ℤ pos unit -ℤ low *ℤ size → neg_ℤ (pos (2 * unit)) ≤ℤ low
+    → int_min (low +ℤ pos ((rest + (n - 1)) / n)) (pos (2 * unit)) ≡ cut (pos (2 * unit)) (ceil_over (z *ℤ pos unit) size)
+near z low size rest n p e h k = rw (ratio-from z low size rest n p e h) (cut-least (pos (2 * unit)) (low +ℤ pos ((rest + (n - 1)) / n)) (omega (arith, ints)) (omega (arith, lines)))
+
+magnitude_is : (z : ℤ) → pos 0 ≤ℤ z → pos (nat_abs z) ≡ z
+magnitude_is z h = omega (arith, ints)
+
+magnitude-positive : (z : ℤ) → pos 1 ≤ℤ z → 0 < nat_abs z
+magnitude-positive z h = omega (arith, ints)
+
+magnitude-le : (z size : ℤ) → pos 0 ≤ℤ z → pos 1 ≤ℤ size → z ≤ℤ ((size +ℤ size) +ℤ (size +ℤ size)) → nat_abs z ≤ 4 * nat_abs size
+magnitude-le z size h p k = omega (arith, ints)
+
+-- the same as the code computes it
+pub ratio-inside : (z size : ℤ) → pos 1 ≤ℤ size → neg_ℤ (size +ℤ size) ≤ℤ z → z ≤ℤ (size +ℤ size)
+    → cut (pos (2 * unit)) (floor_over (z *ℤ pos unit) size) ≡ pos (nat_abs (z +ℤ (size +ℤ size)) * unit / nat_abs size) -ℤ pos (2 * unit)
+ratio-inside z size p h k =
+    let w = z +ℤ (size +ℤ size) in
+    let s = magnitude_is size (omega (arith, lines)) in
+    let e = magnitude_is w (omega (arith, lines)) in
+    inside z size (nat_abs w) (nat_abs size) (magnitude-positive size p) (omega (arith, lines)) (omega (arith, lines))
+    (magnitude-le w size (omega (arith, lines)) p (omega (arith, lines)))
+
+pub ratio-near : (z low size : ℤ) → pos 1 ≤ℤ size → pos 0 ≤ℤ (z *ℤ pos unit -ℤ low *ℤ size) → neg_ℤ (pos (2 * unit)) ≤ℤ low
+    → int_min (low +ℤ pos ((nat_abs (z *ℤ pos unit -ℤ low *ℤ size) + (nat_abs size - 1)) / nat_abs size)) (pos (2 * unit)) ≡ cut (pos (2 * unit)) (ceil_over (z *ℤ pos unit) size)
+ratio-near z low size p h k =
+    let rest = z *ℤ pos unit -ℤ low *ℤ size in
+    let s = magnitude_is size (omega (arith, lines)) in
+    near z low size (nat_abs rest) (nat_abs size) (magnitude-positive size p) (omega (arith, lines)) (magnitude_is rest h) k
+
+-- ---- what ratios hold
 -- the numbers of a quotient, counted in parts of the divisor and m
 swapped : (z u m : ℤ) → (z *ℤ u) *ℤ m ≡ (z *ℤ m) *ℤ u
 swapped = by_diff3 (λ (z u m : ℤ). (z *ℤ u) *ℤ m ≡ (z *ℤ m) *ℤ u) (λ (a b c d e f : ℕ). simp diffs (diff-same _ _ _ _ (omega arith)))
@@ -183,3 +291,42 @@ ratio_of-in (pos n) (Between a b) (Between c d) o h =
     let high = mul-le_right b d (pos unit) h.1 (omega (arith, ints)) in
     (cut-mono (pos (2 * unit)) _ _ (floor_over-mono _ _ n (omega (arith, ints)) low), cut-mono (pos (2 * unit)) _ _ (ceil_over-mono _ _ n (omega (arith, ints)) high))
 ratio_of-in (negsuc n) (Between a b) (Between c d) o h = absurd (omega (arith, ints))
+
+-- ---- what the code finds
+-- ends past a million million million units are past the bound of lengths
+pub narrow_of-low : (lo hi : ℤ) → lo <ℤ neg_ℤ (pos (10 ^ 30)) → narrow_of (Between lo hi) ≡ Every
+unfolding narrow_of
+narrow_of-low lo hi h =
+    let f = floor_over_is lo unit (omega arith) in
+    let past : floor_over lo (pos unit) <ℤ neg_ℤ (pos enc_bound) = omega (arith, ints, f.0, f.1) in
+    bounded-low enc_bound (floor_over lo (pos unit)) (ceil_over hi (pos unit)) past
+
+pub narrow_of-high : (lo hi : ℤ) → pos (10 ^ 30) <ℤ hi → narrow_of (Between lo hi) ≡ Every
+unfolding narrow_of
+narrow_of-high lo hi h =
+    let f = ceil_over_is hi unit (omega arith) in
+    let past : pos enc_bound <ℤ ceil_over hi (pos unit) = omega (arith, ints, f) in
+    bounded-high enc_bound (floor_over lo (pos unit)) (ceil_over hi (pos unit)) past
+
+pub narrow_of-near : (lo hi : ℤ) → IsWithin enc_bound (floor_over lo (pos unit)) → IsWithin enc_bound (ceil_over hi (pos unit))
+    → narrow_of (Between lo hi) ≡ Between (floor_over lo (pos unit)) (ceil_over hi (pos unit))
+unfolding narrow_of
+narrow_of-near lo hi h k = bounded-near enc_bound (floor_over lo (pos unit)) (ceil_over hi (pos unit)) h.0 k.1
+
+pub units_below : (z w : ℤ) → z ≤ℤ w → (floor_over z (pos unit) *ℤ pos unit) ≤ℤ w
+units_below z w h = let f = floor_over_is z unit (omega arith) in omega (arith, lines, f.0)
+
+pub units_in_order : (z w : ℤ) → z ≤ℤ w → floor_over z (pos unit) ≤ℤ ceil_over w (pos unit)
+units_in_order z w h = floor-ceil z w unit (omega arith) h
+
+-- a number rounded up to units, from whole units that are no more than it
+pub ceil_over-from : (z low : ℤ) (rest : ℕ) → z ≡ low *ℤ pos unit +ℤ pos rest → ceil_over z (pos unit) ≡ low +ℤ pos ((rest + (unit - 1)) / unit)
+ceil_over-from z low rest h =
+    let f = floor_over_is (neg_ℤ z) unit (omega arith) in
+    omega (arith, ints, f.0, f.1)
+
+pub units_within : (low : ℤ) → IsWithin enc_bound low → IsWithin (10 ^ 30) (low *ℤ pos unit)
+units_within low h = (omega (arith, ints, h.0), omega (arith, ints, h.1))
+
+pub rest_is : (z low : ℤ) → (low *ℤ pos unit) ≤ℤ z → z ≡ low *ℤ pos unit +ℤ pos (nat_abs (z -ℤ low *ℤ pos unit))
+rest_is z low h = omega (arith, ints)

@@ -1,13 +1,13 @@
 -- Roots of spans: in range, what they hold, and that they keep containment.
-use Rattle.std.proofs.Common.{◌≡◌, ℕ, ap, sym, nat_abs, ◌+◌, ◌*◌, ◌^◌, ◌<◌, ◌≤◌, zero, suc, refl, arith, ℤ, pos, negsuc, ◌*ℤ◌, ◌≤ℤ◌, ◌<ℤ◌, mul-le-mul}
+use Rattle.std.proofs.Common.{◌≡◌, ℕ, ap, sym, nat_abs, ◌+◌, ◌*◌, ◌^◌, ◌<◌, ◌≤◌, zero, suc, refl, arith, ℤ, pos, negsuc, ◌-ℤ◌, ◌*ℤ◌, ◌≤ℤ◌, ◌<ℤ◌, mul-le-mul}
 use Rattle.std.proofs.lemmas.Int.{ints}
 use Rattle.std.specs.Int.{int_max}
-use Rattle.solid_base.proofs.Ring.{lines}
+use Rattle.solid_base.proofs.Ring.{lines, square_nonnegative}
 use Rattle.fixed_enclosure.specs.Spans.{Span, Every, Between, IsSpan, Holds, IsFrom, IsUpTo, IsIn, enc_bound, area_bound}
 use Rattle.fixed_enclosure.specs.Roots.{whole_root, whole_root_up, floor_root, ceil_root}
 use Rattle.fixed_enclosure.specs.Values.{root_of}
 use Rattle.fixed_enclosure.proofs.Spans.{bounded-is, bounded-holds, bounded-in, zero_times}
-use Rattle.fixed_enclosure.proofs.WholeRoots.{below_root, whole_root-is, whole_root-greatest, whole_root_up-is, whole_root_up-least, root_unique}
+use Rattle.fixed_enclosure.proofs.WholeRoots.{below_root, above_root, whole_root-is, whole_root-greatest, whole_root_up-is, whole_root_up-least, root_unique}
 
 -- ---- the root of a whole number, rounded down and up
 floor_root-greatest : (z : ℤ) (s : ℕ) → pos (s * s) ≤ℤ z → pos s ≤ℤ floor_root z
@@ -64,9 +64,30 @@ ceil_root-exact (pos n) h =
     omega (arith, ints)
 ceil_root-exact (negsuc n) h = refl
 
+-- a number whose square is no less, and that of the number before it is
+pub ceil_root-found : (z r : ℤ) → pos 0 <ℤ r → ((r -ℤ pos 1) *ℤ (r -ℤ pos 1)) <ℤ z → z ≤ℤ (r *ℤ r) → ceil_root z ≡ r
+ceil_root-found (pos n) (pos (suc k)) p h i =
+    let e : pos (suc k) -ℤ pos 1 ≡ pos k = omega (arith, ints) in
+    let below = rw e at h in
+    let u = whole_root_up-is n in
+    let least = whole_root_up-least n (suc k) (omega (arith, ints)) in
+    let above = above_root k (whole_root_up n) (omega (arith, ints, u)) in
+    omega (arith, ints)
+ceil_root-found (negsuc n) r p h i = absurd (omega (arith, lines, square_nonnegative (r -ℤ pos 1)))
+ceil_root-found (pos n) (pos zero) p h i = absurd (omega (arith, ints))
+ceil_root-found (pos n) (negsuc k) p h i = absurd (omega (arith, ints))
+
 -- the root of an area's end is small
 pub root_small : (n r : ℕ) → r * r ≤ n → n ≤ area_bound → r ≤ 4 * 10 ^ 18
 root_small n r h k = below_root (4 * 10 ^ 18) r n h (omega arith)
+
+pub next_small : (r : ℤ) → pos 0 <ℤ r → ((r -ℤ pos 1) *ℤ (r -ℤ pos 1)) <ℤ pos area_bound → r ≤ℤ pos (4 * 10 ^ 18 + 1)
+next_small (pos (suc k)) p h =
+    let e : pos (suc k) -ℤ pos 1 ≡ pos k = omega (arith, ints) in
+    let below = rw e at h in
+    omega (arith, ints, root_small (k * k) k (omega arith) (omega (arith, ints)))
+next_small (pos zero) p h = absurd (omega (arith, ints))
+next_small (negsuc k) p h = absurd (omega (arith, ints))
 
 -- ---- the roots' squares
 pub floor_root-zero : (z : ℤ) → pos 0 ≤ℤ floor_root z

@@ -1,5 +1,5 @@
 -- Spans by their bound: what is kept where an end passes it, what is held, and what lies within what.
-use Rattle.std.proofs.Common.{ℕ, ◌*◌, ◌<◌, ◌↔◌, ◌≡◌, arith, Bool, true, false, ◌||◌, if◌then◌else◌, ℤ, pos, neg_ℤ, ◌+ℤ◌, ◌*ℤ◌, ◌≤ℤ◌, int_lt}
+use Rattle.std.proofs.Common.{ℕ, ◌*◌, ◌<◌, ◌↔◌, ◌≡◌, arith, Bool, true, false, ◌||◌, if◌then◌else◌, ℤ, pos, neg_ℤ, ◌+ℤ◌, ◌*ℤ◌, ◌≤ℤ◌, ◌<ℤ◌, int_lt}
 use Rattle.std.proofs.lemmas.Int.{ints, by_lt_z}
 use Rattle.solid_base.proofs.Ring.{lines, diffs, diff-same, by_diff3, mul-le_right, mul_assoc_z}
 use Rattle.solid_base.specs.declared.geometry.Vec3.{Vec3}
@@ -21,6 +21,15 @@ bounded-holds m bound lo hi x h k = either (λ s. Holds m s x) (int_lt lo (neg_�
 
 pub bounded-in : (bound : ℕ) (low high lo hi : ℤ) → lo ≤ℤ low → high ≤ℤ hi → IsIn (bounded bound low high) (bounded bound lo hi)
 bounded-in bound low high lo hi h k = grind (arith, ints)
+
+pub bounded-low : (bound : ℕ) (lo hi : ℤ) → lo <ℤ neg_ℤ (pos bound) → bounded bound lo hi ≡ Every
+bounded-low bound lo hi h = grind (arith, ints)
+
+pub bounded-high : (bound : ℕ) (lo hi : ℤ) → pos bound <ℤ hi → bounded bound lo hi ≡ Every
+bounded-high bound lo hi h = grind (arith, ints)
+
+pub bounded-near : (bound : ℕ) (lo hi : ℤ) → neg_ℤ (pos bound) ≤ℤ lo → hi ≤ℤ pos bound → bounded bound lo hi ≡ Between lo hi
+bounded-near bound lo hi h k = grind (arith, ints)
 
 -- ---- what is held in a wider span, and in finer steps
 pub holds_wider : (m : ℕ) (s t : Span) (x : ℤ) → IsIn s t → Holds m s x → Holds m t x

@@ -30,7 +30,7 @@ pub root_unique : (n r : ℕ) → IsRoot n r → r ≡ whole_root n
 root_unique n r h = let w = whole_root-is n in omega (arith, below_root r (whole_root n) n w.0 h.1, whole_root-greatest n r h.0)
 
 -- ---- rounded up
-above_root : (a b : ℕ) → a * a < b * b → a + 1 ≤ b
+pub above_root : (a b : ℕ) → a * a < b * b → a + 1 ≤ b
 above_root a b h = elim (cases_lt a b) [
   | inl l ↦ omega arith
   | inr l ↦ (let m : b * b ≤ a * a = mul-le-mul l l in absurd (omega arith))

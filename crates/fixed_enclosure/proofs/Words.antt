@@ -1,7 +1,7 @@
 -- Sums, differences and products of ends, as 128 bits compute them.
 use Rattle.std.proofs.Common.{◌+ℤ◌, ◌-ℤ◌, ◌*ℤ◌, to_z, of_z, ◌≡◌, arith, ℤ, pos, false, ◌<ℤ◌}
 use Rattle.std.proofs.lemmas.Int.{ints}
-use Rattle.std.specs.Int.{w128}
+use Rattle.std.specs.Int.{w64, w128}
 use Rattle.solid_base.proofs.Ring.{code, product_within}
 use Rattle.solid_base.specs.Range.{IsWithin}
 use Rattle.fixed_enclosure.specs.Spans.{enc_bound, area_bound}
@@ -28,3 +28,7 @@ above_apart lo hi h = grind (arith, ints)
 
 pub below_apart : (lo hi : ℤ) → hi <ℤ pos 0 → is_round_zero lo hi ≡ false
 below_apart lo hi h = grind (arith, ints)
+
+-- a length's end fits in 64 bits
+pub narrowed_back : (x : ℤ) → IsWithin enc_bound x → to_z w128 (of_z w128 (to_z w64 (of_z w64 (to_z w128 (of_z w128 x))))) ≡ x
+narrowed_back x h = omega (arith, code)

@@ -1,3 +1,4 @@
 pub mod Spans
 pub mod Roots
 pub mod Values
+pub mod Places

@@ -5,10 +5,10 @@ ghost use Rattle.fixed_enclosure.specs.Values.{bounded};
 use super::enclosures::{Area, Enc};
 
 /// The greatest end of a length, in steps.
-const ENC_BOUND: i128 = 1_000_000_000_000_000_000;
+pub(crate) const ENC_BOUND: i128 = 1_000_000_000_000_000_000;
 
 /// The greatest end of an area, in square steps.
-pub(crate) const AREA_BOUND: i128 = 10_000_000_000_000_000_000_000_000_000_000_000_000;
+const AREA_BOUND: i128 = 10_000_000_000_000_000_000_000_000_000_000_000_000;
 
 /// The length from `lo` to `hi`, or `All` where an end passes the bound.
 pub(crate) fn enc_bounded(lo: i128, hi: i128) -> Enc

@@ -2,11 +2,14 @@ ghost use Rattle.std.specs.Prelude.{◌≡◌, ◌≢◌, ◌↔◌, ◌<◌, �
 ghost use Rattle.std.specs.Int.{int_max};
 ghost use Rattle.solid_base.specs.declared.geometry.Vec3.{Vec3};
 ghost use Rattle.solid_base.specs.declared.geometry.Cube.{Cube};
+ghost use Rattle.solid_base.specs.Range.{IsPointWithin, far};
+ghost use Rattle.solid_base.specs.Ranges.{dot};
 ghost use Rattle.fixed_enclosure.specs.declared.enclosures.Box3.{Box3};
 ghost use Rattle.fixed_enclosure.specs.declared.enclosures.Sign.{Sign};
 ghost use Rattle.fixed_enclosure.specs.Spans.{Span, IsSpan, Holds, IsFrom, IsUpTo, BoxHolds, IsIn, IsBoxIn, box_of, enc_bound, area_bound};
 ghost use Rattle.fixed_enclosure.specs.Roots.{whole_root, whole_root_up, floor_root, ceil_root};
 ghost use Rattle.fixed_enclosure.specs.Values.{bounded, point_of, sum_of, minus_of, times_of, square_of, narrow_of, root_of, ratio_of, sign_of, cut, unit};
+ghost use Rattle.fixed_enclosure.specs.Places.{Span3, offset, offset_spans, dot_span, SpansHold, Nested, AreNested};
 
 /// A span holds what a span in it holds, and the same number counted in finer or in coarser parts.
 pub fn holding()
@@ -137,4 +140,17 @@ pub fn signs()
         sign_of s ≡ Sign.Negative → x <ℤ pos 0 }
     ensures isotone { (bound : ℕ) (p s : Span) → IsSpan bound p → IsIn p s →
         sign_of s ≢ Sign.Open → sign_of p ≡ sign_of s }
+{}
+
+/// The same of the way from a point in range, and of the scalar product over a unit, whose parts are
+/// a unit smaller than the products of the operands' parts.
+pub fn places()
+    ensures offset_holds { (m : ℕ) (s : Span3) (from p : Vec3) → SpansHold m s p →
+        SpansHold m (offset_spans s from) (offset m from p) }
+    ensures offset_isotone { (p s : Span3) (from : Vec3) → IsPointWithin far from →
+        AreNested p s → AreNested (offset_spans p from) (offset_spans s from) }
+    ensures dot_holds { (m n : ℕ) (a b : Span3) (p q : Vec3) → SpansHold m a p → SpansHold n b q →
+        Holds (unit * (m * n)) (dot_span a b) (dot p q) }
+    ensures dot_isotone { (a b p q : Span3) → AreNested a p → AreNested b q →
+        Nested enc_bound (dot_span a b) (dot_span p q) }
 {}

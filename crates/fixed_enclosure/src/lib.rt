@@ -6,6 +6,7 @@
 mod bounds;
 mod enclosures;
 pub mod laws;
+mod places;
 mod products;
 mod ratios;
 mod roots;
@@ -14,6 +15,7 @@ mod sums;
 mod units;
 
 pub use enclosures::{Area, Box3, Enc, Sign};
+pub use places::{along, dot, offset, point_box, three_sum, turn};
 pub use products::{narrow, square, times};
 pub use ratios::ratio;
 pub use roots::root;

@@ -240,6 +240,11 @@ fn takes_ratios_outward_and_cuts_them(rt: HostRuntime) {
         // Up to 2, and past it.
         (enc(-2, 2), 1, enc(-2 * U, 2 * U)),
         (enc(-3, 3), 1, enc(-2 * U, 2 * U)),
+        (enc(2, 2), 1, enc(2 * U, 2 * U)),
+        (enc(-2, -2), 1, enc(-2 * U, -2 * U)),
+        // Ends that are far from each other.
+        (enc(-1, FAR), FAR, enc(-1, U)),
+        (enc(-FAR, 1), FAR, enc(-U, 1)),
         (enc(3, END), 1, enc(2 * U, 2 * U)),
         (enc(-END, -3), 1, enc(-2 * U, -2 * U)),
         (enc(1, FAR), FAR / 2, enc(0, 2 * U)),

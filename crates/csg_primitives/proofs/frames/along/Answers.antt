@@ -1,5 +1,5 @@
 use Rattle.std.proofs.Common.{◌∙◌}
-use Rattle.csg_primitives.specs.WrittenFrames.{spans_of}
+use Rattle.fixed_enclosure.specs.Places.{spans_of}
 use Rattle.csg_primitives.proofs.DefaultAxes.{default_height, default_radius}
 use Rattle.csg_primitives.proofs.frames.along.Goals as goal
 

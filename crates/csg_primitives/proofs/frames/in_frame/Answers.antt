@@ -1,4 +1,4 @@
-use Rattle.csg_primitives.specs.WrittenFrames.{spans_of}
+use Rattle.fixed_enclosure.specs.Places.{spans_of}
 use Rattle.csg_primitives.proofs.DefaultAxes.{default_frame}
 use Rattle.csg_primitives.proofs.frames.in_frame.Goals as goal
 

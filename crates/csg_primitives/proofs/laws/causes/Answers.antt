@@ -1,4 +1,4 @@
-use Rattle.csg_primitives.specs.WrittenFrames.{spans_of}
+use Rattle.fixed_enclosure.specs.Places.{spans_of}
 use Rattle.csg_primitives.specs.WrittenMargins.{written_margins}
 use Rattle.csg_primitives.proofs.SpanClasses.{inside-cause, outside-cause, mixed-cause, open-zero}
 use Rattle.csg_primitives.proofs.laws.causes.Goals as goal

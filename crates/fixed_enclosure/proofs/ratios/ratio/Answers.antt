@@ -14,9 +14,9 @@ returns-in-Span-clause-within c =
     let size = c.ranges.size in
     let f1 : FitsSigned w128 s.lo = omega (arith, code) in
     let f2 : FitsSigned w128 s.hi = omega (arith, code) in
-    let f3 : FitsSigned w128 c.ratio_down.result = search rules in
+    let f3 : FitsSigned w128 c.ratio_down-low.result = search rules in
     let f4 : FitsSigned w128 c.ratio_up.result = search rules in
-    let low = simp to_z-of_z at c.ratio_down.ensures.value in
+    let low = simp to_z-of_z at c.ratio_down-low.ensures.value in
     let high = simp to_z-of_z at c.ratio_up.ensures.value in
     let v = ratio_of-is c.args.size (Between s.lo s.hi) c.requires.size_above_zero a in
     simp to_z-of_z (rw (low, high) v)
