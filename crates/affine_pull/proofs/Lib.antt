@@ -1,0 +1,6 @@
+pub mod Enclosed
+pub mod Nests
+pub mod LawfulChains
+pub mod Levels
+pub mod Undone
+pub mod StandardFacts
