@@ -1,0 +1,9 @@
+pub mod GraphFaults
+pub mod FirstFaults
+pub mod Opaque
+pub mod Levels
+pub mod Rules
+pub mod Links
+pub mod Order
+pub mod Tables
+pub mod Measures

@@ -1,0 +1,50 @@
+-- solidd's own: what a table holds of each row, and how the entry of a row comes from those of the rows that it names.
+use Rattle.std.specs.Prelude.{◌≡◌, ℕ, zero, suc, List, [], ◌∷◌, min}
+use Rattle.solid_base.specs.declared.entities.Entity.{Entity}
+use Rattle.solid_base.specs.declared.solids.Row.{Row}
+use Rattle.solid_base.specs.declared.solids.Row.TheVariants as row
+use Rattle.solid_base.specs.References.{references}
+use Rattle.solid_base.specs.Graph.{greatest, row_weight, depth_of, weight_of, most_levels, most_weight}
+use Rattle.entity_graph.specs.FirstFaults.{AreShallow}
+use Rattle.entity_graph.specs.Opaque.{IsFirstOpaque}
+use Rattle.entity_graph.specs.declared.tables.Measure.{Measure}
+use Rattle.entity_graph.specs.declared.tables.Measure.TheVariants as measure
+
+-- the lesser of two numbers of which 0 is none
+abbrev pub lesser : ℕ → ℕ → ℕ
+lesser zero b = b
+lesser (suc a) zero = suc a
+lesser (suc a) (suc b) = min (suc a) (suc b)
+
+-- the least of some numbers' values but 0, 0 where there is none
+abbrev pub least : (ℕ → ℕ) → List ℕ → ℕ
+least f [] = 0
+least f (n ∷ ns) = lesser (f n) (least f ns)
+
+-- the first row that isn't read, from those of the rows that a row names
+abbrev pub first_opaque : (ℕ → ℕ) → ℕ → Row → ℕ
+first_opaque f e row.Null = least f (references row.Null)
+first_opaque f e (row.Opaque kind form matrix text) = e
+first_opaque f e (row.Matrix form affine next) = least f (references (row.Matrix form affine next))
+first_opaque f e (row.Prim p matrix) = least f (references (row.Prim p matrix))
+first_opaque f e (row.Tree items matrix) = least f (references (row.Tree items matrix))
+first_opaque f e (row.Assembly items matrix) = least f (references (row.Assembly items matrix))
+first_opaque f e (row.Instance child matrix) = least f (references (row.Instance child matrix))
+
+-- the entry of the row with the number e, from the entries of those that it names
+abbrev pub step : Measure → (ℕ → ℕ) → ℕ → Row → ℕ
+step measure.Depth f e r = min (suc most_levels) (suc (greatest f (references r)))
+step measure.Weight f e r = min (suc most_weight) (row_weight f r)
+step measure.Opaque f e r = first_opaque f e r
+
+-- what has to be known before a table is made
+abbrev pub IsReady : Measure → List Entity → Type 0
+IsReady measure.Depth rows = Unit {0}
+IsReady measure.Weight rows = AreShallow rows
+IsReady measure.Opaque rows = Unit {0}
+
+-- what an entry says of its row
+abbrev pub Right : Measure → List Entity → ℕ → ℕ → Type 0
+Right measure.Depth rows e n = n ≡ depth_of rows e
+Right measure.Weight rows e n = n ≡ min (suc most_weight) (weight_of rows e)
+Right measure.Opaque rows e n = IsFirstOpaque rows e n

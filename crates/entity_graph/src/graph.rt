@@ -1,0 +1,95 @@
+ghost use Rattle.std.specs.Prelude.{◌≡◌, ◌≤◌, ℕ, length, IfOk, IfErr};
+ghost use Rattle.solid_base.specs.Graph.{AreSound, depth_of, weight_of};
+ghost use Rattle.entity_graph.specs.GraphFaults.{IsOfText};
+ghost use Rattle.entity_graph.specs.FirstFaults.{IsNumber, IsFault};
+ghost use Rattle.entity_graph.specs.Opaque.{IsFirstOpaque};
+
+use crate::graph_faults::GraphFault;
+use crate::rules::read_links;
+use crate::stages::{find_depths, find_places, find_weights};
+use crate::tables::Measure;
+use solid_base::Rows;
+use std::alloc::Global;
+use std::marker::Model;
+
+/// Rows whose references obey the rules, with the depth and the weight of each and the first row that it
+/// reaches and that isn't read. Contracts see the rows.
+#[derive(Debug, Drop)]
+pub struct Graph {
+    rows: Rows,
+    depths: Vec<u32>,
+    weights: Vec<u32>,
+    opaques: Vec<u32>,
+}
+
+impl Model for Graph {
+    ghost use Rattle.std.specs.Prelude.{List};
+    ghost use Rattle.solid_base.specs.declared.entities.Entity.{Entity};
+
+    ghost Value = { List Entity };
+
+    ghost use Rattle.entity_graph.specs.Tables.{AreTables};
+
+    ghost view = { λ g. g.rows };
+
+    ghost invariant = { λ g. AreTables g.rows g.depths.items g.weights.items g.opaques.items };
+}
+
+impl Graph {
+    /// The graph of rows. Else the first fault of their references: each kind is looked for in all rows
+    /// before the next. Dangling where one names no entity or a null one, WrongTarget where it wants a
+    /// matrix and names none or the other way round, Cycle where a row reaches one that reaches itself,
+    /// TooDeep where a row has more than 64 levels, TooHeavy where it weighs more than 2^20; Memory where
+    /// memory is wanting.
+    pub fn check(alloc: Global, rows: &Rows) -> Result<Graph, GraphFault>
+        requires { length rows.now ≤ 100000 }
+        ensures graph { IfOk result (λ graph. graph ≡ rows.now) }
+        ensures sound { IfOk result (λ _. AreSound rows.now) }
+        ensures first_fault { IfErr result (λ fault. IsOfText fault → IsFault rows.now fault) }
+    {
+        let links = read_links(alloc, rows.share(alloc)?)?;
+        let order = find_places(alloc, &links)?;
+        let depths = find_depths(alloc, &links, &order)?;
+        let weights = find_weights(alloc, &links, &order)?;
+        let opaques = Measure::Opaque.table(alloc, &links, &order)?;
+        Ok(Graph {
+            rows: links.into_rows(),
+            depths,
+            weights,
+            opaques,
+        })
+    }
+
+    /// A law on each graph: the references of its rows obey the rules.
+    pub fn obeys(&self)
+        ensures sound { AreSound self.now }
+    {
+        let _ = &self.rows;
+    }
+
+    /// The weight of the row with a number: how many evaluations of primitives it takes.
+    pub fn weight(&self, e: u32) -> u64
+        requires { IsNumber self.now e }
+        ensures { result ≡ weight_of self.now e }
+    {
+        self.weights[(e / 2) as usize] as u64
+    }
+
+    /// The depth of the row with a number: 1 where it names no other, else 1 more than the greatest depth
+    /// of those that it names.
+    pub fn depth(&self, e: u32) -> u64
+        requires { IsNumber self.now e }
+        ensures { result ≡ depth_of self.now e }
+    {
+        self.depths[(e / 2) as usize] as u64
+    }
+
+    /// The least number of a row that isn't read, of those that the row with a number reaches, itself
+    /// among them; 0 where it reaches none.
+    pub fn opaque(&self, e: u32) -> u32
+        requires { IsNumber self.now e }
+        ensures { IsFirstOpaque self.now e result }
+    {
+        self.opaques[(e / 2) as usize]
+    }
+}

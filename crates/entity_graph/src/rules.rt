@@ -1,0 +1,98 @@
+ghost use Rattle.std.specs.Prelude.{◌≡◌, ◌↔◌, ℕ, ◌≤◌, map, length, IsTrue, MatchOption, IfOk, IfErr};
+ghost use Rattle.solid_base.specs.declared.solids.Row.TheVariants as row;
+ghost use Rattle.solid_base.specs.References.{row_at};
+ghost use Rattle.solid_base.specs.Graph.{IsMatrix};
+ghost use Rattle.entity_graph.specs.Links.{reference};
+ghost use Rattle.entity_graph.specs.FirstFaults.{HasNo, IsFirst, ArePresent, AreDirected, IsFault};
+ghost use Rattle.entity_graph.specs.Rules.{Breaks, HoldsOfNone, IsFirstIn};
+ghost use Rattle.entity_graph.specs.GraphFaults.{IsOfText};
+
+use crate::graph_faults::GraphFault;
+use crate::links::{Link, Links};
+use solid_base::{Row, Rows};
+use std::alloc::Global;
+
+/// A rule on single references: the entity that is named stands there, or it is of the kind that is wanted.
+#[derive(Clone, Copy, Debug)]
+pub enum Rule {
+    Present,
+    Directed,
+}
+
+/// Whether no entity has the number, or a null one.
+fn is_null(rows: &Rows, number: u32) -> bool
+    ensures { IsTrue result ↔ (row_at rows.now number ≡ row.Null) }
+{
+    matches!(rows.row(number), None | Some(Row::Null))
+}
+
+/// Whether the entity with the number is a matrix, read or not.
+fn is_matrix(rows: &Rows, number: u32) -> bool
+    ensures { IsTrue result ↔ IsMatrix (row_at rows.now number) }
+{
+    match rows.row(number) {
+        Some(Row::Matrix { .. }) => true,
+        Some(Row::Opaque { kind, .. }) => *kind == 124,
+        _ => false,
+    }
+}
+
+impl Rule {
+    fn is_broken(self, rows: &Rows, link: Link) -> bool
+        ensures { IsTrue result ↔ Breaks rows.now self (reference link) }
+    {
+        match (self, link) {
+            (Rule::Present, _) => is_null(rows, link.number()),
+            (Rule::Directed, Link::Matrix(number)) => !is_matrix(rows, number),
+            (Rule::Directed, Link::Solid(number)) => is_matrix(rows, number),
+        }
+    }
+
+    /// The number that is named by the first of some references that breaks the rule.
+    fn first_in(self, rows: &Rows, links: &[Link]) -> Option<u32>
+        ensures { MatchOption result
+            (HoldsOfNone (Breaks rows.now self) (map reference links.now))
+            (λ to. IsFirstIn (Breaks rows.now self) (map reference links.now) to) }
+    {
+        for link in links {
+            if self.is_broken(rows, *link) {
+                return Some(link.number());
+            }
+        }
+        None
+    }
+
+    /// The row and the number that it names, of the first reference of all rows that breaks the rule.
+    fn first_of(self, links: &Links) -> Option<(u32, u32)>
+        requires { length links.now ≤ 100000 }
+        ensures { MatchOption result
+            ((e : ℕ) → HasNo (Breaks links.now self) links.now e)
+            (λ p. IsFirst (Breaks links.now self) links.now p.0 p.1) }
+    {
+        for place in 0..links.len() {
+            if let Some(to) = self.first_in(links.rows(), links.row(place)) {
+                return Some((place as u32 * 2 + 1, to));
+            }
+        }
+        None
+    }
+}
+
+/// Reads the references of rows, each of which names an entity of the kind that is wanted. Dangling and
+/// WrongTarget where one doesn't, Memory where memory is wanting.
+pub fn read_links(alloc: Global, rows: Rows) -> Result<Links, GraphFault>
+    requires { length rows ≤ 100000 }
+    ensures links { IfOk result (λ links. links ≡ rows) }
+    ensures present { IfOk result (λ _. ArePresent rows) }
+    ensures directed { IfOk result (λ _. AreDirected rows) }
+    ensures first_fault { IfErr result (λ fault. IsOfText fault → IsFault rows fault) }
+{
+    let links = Links::read(alloc, rows)?;
+    if let Some((de, to)) = Rule::Present.first_of(&links) {
+        return Err(GraphFault::Dangling(de, to));
+    }
+    if let Some((de, to)) = Rule::Directed.first_of(&links) {
+        return Err(GraphFault::WrongTarget(de, to));
+    }
+    Ok(links)
+}
