@@ -1,0 +1,12 @@
+pub mod Counting
+pub mod Growing
+pub mod Uniting
+pub mod Unfolding
+pub mod AllSolids
+pub mod BoxesOfSpans
+pub mod Sound
+pub mod Mixed
+pub mod SameParts
+pub mod Levels
+pub mod Local
+pub mod StandardFacts

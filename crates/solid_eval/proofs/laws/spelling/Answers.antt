@@ -1,0 +1,5 @@
+use Rattle.solid_eval.proofs.Growing.{spelt_tree}
+use Rattle.solid_eval.proofs.laws.spelling.Goals as goal
+
+pub returns : goal.returns
+returns c child tree = spelt_tree child tree

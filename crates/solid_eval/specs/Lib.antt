@@ -1,0 +1,5 @@
+pub mod Solids
+pub mod Classes
+pub mod Written
+pub mod Ticks
+pub mod Locality

@@ -1,0 +1,96 @@
+-- The plain tree that an entity unfolds into along its references. Each meaning of an entity is a recursion on that tree.
+use Rattle.std.specs.Prelude.{◌≡◌, ◌⊎◌, ℕ, zero, suc, List, [], ◌∷◌, Option, None, Some}
+use Rattle.solid_base.specs.declared.entities.Entity.{Entity}
+use Rattle.solid_base.specs.declared.geometry.Affine.{Affine}
+use Rattle.solid_base.specs.declared.solids.Item.{Item}
+use Rattle.solid_base.specs.declared.solids.Item.TheVariants as item
+use Rattle.solid_base.specs.declared.solids.Placed.{Placed}
+use Rattle.solid_base.specs.declared.solids.Primitive.{Primitive}
+use Rattle.solid_base.specs.declared.solids.Row.{Row}
+use Rattle.solid_base.specs.declared.solids.Row.TheVariants as row
+use Rattle.solid_base.specs.References.{row_at}
+use Rattle.solid_base.specs.Graph.{most_levels}
+use Rattle.solid_base.specs.Trees.{Operation, union, intersection, difference, Tree, operand, combination}
+use Rattle.affine_pull.specs.Chains.{chain_of}
+
+-- solidd's own: nothing; a primitive with its entity's number; a part that a chain of matrices moves; the part that is an entity; an operation on two parts, the left one first
+pub data Solid : Type 0 where
+  nothing : Solid
+  primitive : ℕ → Primitive → Solid
+  moved : List Affine → Solid → Solid
+  entity : ℕ → Solid → Solid
+  combined : Operation → Solid → Solid → Solid
+
+-- ---- Boolean trees
+
+-- IGES 5.3, type 180: an operation takes the last two of the solids at hand, of which the last one stands first, and then it goes on; nothing comes of fewer than two
+abbrev pub on_two : Operation → (List Solid → Option (List Solid)) → List Solid → Option (List Solid)
+on_two o go [] = None
+on_two o go (b ∷ []) = None
+on_two o go (b ∷ a ∷ stack) = go (combined o a b ∷ stack)
+
+-- IGES 5.3, type 180: the solids that a post-order list leaves at hand, where an operand adds its solid; nothing where an operation lacks a side
+unfoldable pub grown : (ℕ → Solid) → List Item → List Solid → Option (List Solid)
+grown child [] stack = Some stack
+grown child (item.Operand number ∷ items) stack = grown child items (child number ∷ stack)
+grown child (item.Join ∷ items) stack = on_two union (grown child items) stack
+grown child (item.Meet ∷ items) stack = on_two intersection (grown child items) stack
+grown child (item.Less ∷ items) stack = on_two difference (grown child items) stack
+
+-- solidd's own: the last one of the solids at hand
+abbrev pub last_of : Option (List Solid) → Solid
+last_of None = nothing
+last_of (Some []) = nothing
+last_of (Some (s ∷ stack)) = s
+
+-- IGES 5.3, type 180: the solid that a list of items spells
+abbrev pub spelt : (ℕ → Solid) → List Item → Solid
+spelt child items = last_of (grown child items [])
+
+-- IGES 5.3, type 180: the solid of a tree, by recursion on it
+abbrev pub tree_solid : (ℕ → Solid) → Tree → Solid
+tree_solid child (operand number) = child number
+tree_solid child (combination o a b) = combined o (tree_solid child a) (tree_solid child b)
+
+-- ---- assemblies
+
+-- IGES 5.3, type 184: an item is moved by the matrix that places it, where there is one
+abbrev pub placed_item : (ℕ → List Affine) → (ℕ → Solid) → Placed → Solid
+placed_item chain child p = moved (chain p.matrix) (child p.item)
+
+-- IGES 5.3, type 184: what stands before, united with each item in turn
+abbrev pub united : (ℕ → List Affine) → (ℕ → Solid) → Solid → List Placed → Solid
+united chain child before [] = before
+united chain child before (p ∷ items) = united chain child (combined union before (placed_item chain child p)) items
+
+-- ---- entities
+
+-- IGES 5.3, 2.2.4.4.7: an entity is moved by the chain of the matrix that its directory entry names. The solid of a row is made from the chains of matrices and the solids of the entities that it names
+abbrev pub row_solid : (ℕ → List Affine) → (ℕ → Solid) → ℕ → Row → Solid
+row_solid chain child e row.Null = nothing
+row_solid chain child e (row.Opaque kind form matrix text) = nothing
+row_solid chain child e (row.Matrix form affine next) = nothing
+row_solid chain child e (row.Prim p matrix) = entity e (moved (chain matrix) (primitive e p))
+row_solid chain child e (row.Tree items matrix) = entity e (moved (chain matrix) (spelt child items))
+row_solid chain child e (row.Assembly items matrix) = entity e (moved (chain matrix) (united chain child nothing items))
+-- IGES 5.3, type 430: an instance is the solid that it names, moved by its own chain behind that solid's
+row_solid chain child e (row.Instance number matrix) = entity e (moved (chain matrix) (child number))
+
+-- solidd's own: the solid of an entity, of which so many levels are counted
+unfoldable pub solid_within : ℕ → List Entity → ℕ → Solid
+solid_within zero rows e = nothing
+solid_within (suc levels) rows e = row_solid (chain_of rows) (solid_within levels rows) e (row_at rows e)
+
+-- solidd's own: the solid of an entity, of which all levels are counted that a model may have
+unfoldable pub solid_of : List Entity → ℕ → Solid
+solid_of rows e = solid_within most_levels rows e
+
+-- ---- primitives of a solid
+
+-- solidd's own: k is the number of a primitive of the solid
+abbrev pub HasPrimitive : Solid → ℕ → Type 0
+HasPrimitive nothing k = ⊥
+HasPrimitive (primitive e p) k = k ≡ e
+HasPrimitive (moved chain part) k = HasPrimitive part k
+HasPrimitive (entity e part) k = HasPrimitive part k
+HasPrimitive (combined o a b) k = HasPrimitive a k ⊎ HasPrimitive b k

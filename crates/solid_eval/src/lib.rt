@@ -1,0 +1,12 @@
+//! The verdict on an entity over a box, by a walk along its references to the primitives.
+//! Contracts see the plain tree that an entity unfolds into, and the verdict by recursion on it.
+//! That the verdict tells the class of each place in the box, and of each box within, are `laws`.
+#![tactic(auto)]
+
+pub mod laws;
+mod walk;
+
+pub use walk::afresh;
+
+#[cfg(test)]
+mod tests;
