@@ -6,3 +6,4 @@ pub mod LineLaws
 pub mod NumberLaws
 pub mod Steps
 pub mod TakesLaws
+pub mod FirstFeeds

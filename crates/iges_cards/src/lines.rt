@@ -1,12 +1,14 @@
 ghost use Rattle.std.specs.Prelude.{◌≡◌, ◌≢◌, ◌<◌, ◌++◌, ◌∷◌, [], length, take, slice_index, All, IfSome, IfNone};
 ghost use Rattle.iges_cards.specs.Lines.{IsOneLine, IsFirstLine, line_of};
 
+use memchr::memchr;
+
 fn place_of_feed(bytes: &[u8]) -> Option<usize>
     ensures found { IfSome result (λ n. (n < length bytes.now) × (slice_index bytes.now n ≡ 10)) }
     ensures before { IfSome result (λ n. All (λ b. b ≢ 10) (take n bytes.now)) }
     ensures none { IfNone result (All (λ b. b ≢ 10) bytes.now) }
 {
-    bytes.iter().position(|b| *b == b'\n')
+    memchr(b'\n', bytes)
 }
 
 /// The bytes before LF, without one CR directly before it.

@@ -7,20 +7,21 @@ use crate::checks::{card_in, check_counts};
 use crate::faults::CardFault;
 use crate::lines::split_line;
 use crate::sections::{Counts, Section};
-use solid_base::{Bytes, Lines};
+use solid_base::{BorrowedLines, Bytes, Lines};
 use std::alloc::{AllocError, Global};
 
-/// What the lines of a file hold, up to the terminate line.
+/// What the lines of a file hold, up to the terminate line. Directory and parameter lines stand in the
+/// bytes of the file, which they borrow.
 #[derive(Debug, Drop)]
-pub struct Cards {
+pub struct Cards<'a> {
     /// Columns 1 to 72 of each start line.
     pub start: Lines,
     /// Columns 1 to 72 of the global lines, joined.
     pub global: Bytes,
     /// The 80 columns of each directory line.
-    pub directory: Lines,
+    pub directory: BorrowedLines<'a>,
     /// Columns 1 to 64 of each parameter line.
-    pub params: Lines,
+    pub params: BorrowedLines<'a>,
     /// The place behind the terminate line and its line end.
     pub end: usize,
 }
@@ -31,28 +32,28 @@ fn push_columns(alloc: Global, lines: &mut Lines, columns: &[u8]) -> Result<(), 
     lines.push(Bytes::from_vec(Vec::from_slice(alloc, columns)?))
 }
 
-impl Cards {
-    fn new(alloc: Global) -> Cards
+impl<'a> Cards<'a> {
+    fn new(alloc: Global) -> Cards<'a>
         ensures { result ≡ no_cards }
     {
         Cards {
             start: Lines::new(alloc),
             global: Bytes::new(alloc),
-            directory: Lines::new(alloc),
-            params: Lines::new(alloc),
+            directory: BorrowedLines::new(alloc),
+            params: BorrowedLines::new(alloc),
             end: 0,
         }
     }
 
     /// Keeps columns of a line more.
-    fn keep(&mut self, alloc: Global, section: Section, kept: &[u8]) -> Result<(), AllocError>
+    fn keep(&mut self, alloc: Global, section: Section, kept: &'a [u8]) -> Result<(), AllocError>
         ensures { OnOk result (self.new ≡ keep section kept.now self.old) }
     {
         match section {
             Section::Start => push_columns(alloc, &mut self.start, kept),
             Section::Global => self.global.extend_from_slice(kept),
-            Section::Directory => push_columns(alloc, &mut self.directory, kept),
-            Section::Parameter => push_columns(alloc, &mut self.params, kept),
+            Section::Directory => self.directory.push(kept),
+            Section::Parameter => self.params.push(kept),
             Section::Terminate => Ok(()),
         }
     }
@@ -69,7 +70,7 @@ impl Cards {
 /// NotFixed, BadSection and BadSequence are looked for in this order, and in the T line then
 /// BadTerminate and CountMismatch. NoTerminate comes where no line has a fault and there is no T line.
 /// Memory comes where memory is wanting.
-pub fn read_cards(alloc: Global, bytes: &[u8]) -> Result<Cards, CardFault>
+pub fn read_cards<'a>(alloc: Global, bytes: &'a [u8]) -> Result<Cards<'a>, CardFault>
     ensures found { IfOk result (λ cards. cards_in bytes.now ≡ Ok cards) }
     ensures first_fault { IfErr result (λ fault. IsOfText fault → cards_in bytes.now ≡ Err fault) }
     ensures fixed_form { IfOk result (λ cards. IsFixedForm bytes.now cards) }

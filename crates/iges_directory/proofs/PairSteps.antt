@@ -1,6 +1,5 @@
 -- How reading goes on from pair to pair.
-use Rattle.std.proofs.Common.{◌≡◌, ◌≢◌, ℕ, ◌+◌, ◌-◌, ◌*◌, ◌%◌, ◌<◌, ◌≤◌, ◌==◌, nat_lt, List, [], ◌∷◌, ◌++◌, true, false, length, take, drop, slice_index_or, Result, Ok, Err, refl, sym, ap, subst, ◌∙◌, arith}
-use Rattle.std.proofs.lemmas.List.{take_rest}
+use Rattle.std.proofs.Common.{◌≡◌, ◌≢◌, ℕ, zero, suc, ◌+◌, ◌*◌, ◌%◌, ◌<◌, ◌≤◌, ◌==◌, nat_lt, List, [], ◌∷◌, ◌++◌, true, false, length, drop, slice_get, Some, Result, Ok, Err, refl, sym, ap, subst, ◌∙◌, arith}
 use Rattle.std.specs.List.{AllByRecursion}
 use Rattle.iges_directory.specs.declared.directory_faults.DirFault.{DirFault}
 use Rattle.iges_directory.specs.declared.directory_faults.DirFault.TheVariants as fault
@@ -36,11 +35,25 @@ starts params lines h k = rw (same (length lines % 2) 0 h, not_less 200000 (leng
 
 -- ---- a pair
 
--- lines that begin with these two
-pub begins : (lines : List (List ℕ)) (one two : List ℕ) → 2 ≤ length lines → one ≡ slice_index_or lines 0 one → two ≡ slice_index_or lines 1 two → lines ≡ one ∷ two ∷ take (length lines - 2) (drop 2 lines)
-begins [] one two h p q = absurd (omega arith)
-begins (x ∷ []) one two h p q = absurd (omega arith)
-begins (x ∷ y ∷ lines) one two h p q = let first : one ≡ x = p in let second : two ≡ y = q in rw (first, second, take_rest) refl
+-- the line at a place, and those behind it
+one_at : (lines : List (List ℕ)) (at : ℕ) (one : List ℕ) → slice_get lines at ≡ Some one → drop at lines ≡ one ∷ drop (suc at) lines
+one_at [] at one is = cc
+one_at (x ∷ lines) zero one is = let same : x ≡ one = cc in rw same refl
+one_at (x ∷ lines) (suc at) one is = one_at lines at one is
+
+-- the two lines at a place, and those behind them
+pub two_at : (lines : List (List ℕ)) (at : ℕ) (one two : List ℕ) → slice_get lines at ≡ Some one → slice_get lines (at + 1) ≡ Some two → drop at lines ≡ one ∷ two ∷ drop (at + 2) lines
+two_at lines at one two p q =
+    let next : suc at ≡ at + 1 = omega arith in
+    let behind : suc (suc at) ≡ at + 2 = omega arith in
+    one_at lines at one p ∙ ap (λ (ls : List (List ℕ)). one ∷ ls) (one_at lines (suc at) two (ap (λ (n : ℕ). slice_get lines n) next ∙ q) ∙ ap (λ (n : ℕ). two ∷ drop n lines) behind)
+
+-- no line stands behind the last one
+pub none_behind : (lines : List (List ℕ)) (at : ℕ) → length lines ≤ at → length (drop at lines) < 2
+none_behind [] zero h = omega arith
+none_behind [] (suc at) h = omega arith
+none_behind (x ∷ lines) zero h = absurd (omega (arith, h))
+none_behind (x ∷ lines) (suc at) h = none_behind lines at (omega (arith, h))
 
 pub eighty_first : (lines behind : List (List ℕ)) (one two : List ℕ) → lines ≡ one ∷ two ∷ behind → AllByRecursion (λ line. length line ≡ 80) lines → (length one ≡ 80) × (length two ≡ 80) × AllByRecursion (λ line. length line ≡ 80) behind
 eighty_first lines behind one two e h =

@@ -6,7 +6,7 @@ ghost use Rattle.iges_directory.specs.DirectoryReading.{directory_in};
 
 use crate::directory_faults::DirFault;
 use crate::pairs::{Pair, pair_in};
-use solid_base::Lines;
+use solid_base::BorrowedLines;
 use std::alloc::{AllocError, Global};
 
 /// How many lines a directory may have.
@@ -31,7 +31,11 @@ fn push_pair(pairs: &mut Vec<Pair>, pair: Pair) -> Result<(), AllocError>
 /// 2 (a parameter line), field 14 (at least 1, and the lines exist), TooMuchText, where the entries so
 /// far have more than 500,000 parameter lines, field 7 (0 to 9,999,999), field 15 (0 to 99,999). A field
 /// that isn't a number in its range is BadField. Memory comes where memory is wanting.
-pub fn read_directory(alloc: Global, lines: &Lines, params: u32) -> Result<Vec<Pair>, DirFault>
+pub fn read_directory(
+    alloc: Global,
+    lines: &BorrowedLines,
+    params: u32,
+) -> Result<Vec<Pair>, DirFault>
     requires eighty { AllByRecursion (λ line. length line ≡ 80) lines.now }
     ensures found { IfOk result (λ pairs. directory_in params lines.now ≡ Ok pairs.items) }
     ensures first_fault { IfErr result (λ fault. IsOfText fault → directory_in params lines.now ≡ Err fault) }
@@ -43,23 +47,23 @@ pub fn read_directory(alloc: Global, lines: &Lines, params: u32) -> Result<Vec<P
     if lines.len() > MOST_LINES {
         return Err(DirFault::TooManyEntities);
     }
-    let mut pairs = Vec::new(alloc);
+    let mut pairs = Vec::with_capacity(alloc, lines.len() / 2)?;
     let mut text = 0;
     let mut entity = 1;
-    let mut rest = lines.as_slice();
-    while let [first, second, behind @ ..] = rest {
+    let mut at = 0;
+    while at < lines.len() {
         let pair = pair_in(
             alloc,
             params,
             text,
             entity,
-            first.as_slice(),
-            second.as_slice(),
+            lines.get(at),
+            lines.get(at + 1),
         )?;
         text += pair.count;
         entity += 2;
         push_pair(&mut pairs, pair)?;
-        rest = behind;
+        at += 2;
     }
     Ok(pairs)
 }

@@ -2,16 +2,16 @@ ghost use Rattle.std.specs.Prelude.{◌≡◌, length, IfOk};
 ghost use Rattle.std.specs.List.{AllByRecursion};
 
 use crate::{DirFault, read_directory};
-use solid_base::{Bytes, Lines};
+use solid_base::{BorrowedLines, Bytes};
 use std::alloc::{AllocError, Global};
 use std::test::Fail;
 
-fn lines_of(alloc: Global, texts: &[[u8; 80]]) -> Result<Lines, AllocError>
+fn lines_of<'a>(alloc: Global, texts: &'a [[u8; 80]]) -> Result<BorrowedLines<'a>, AllocError>
     ensures { IfOk result (λ lines. AllByRecursion (λ line. length line ≡ 80) lines) }
 {
-    let mut lines = Lines::new(alloc);
+    let mut lines = BorrowedLines::new(alloc);
     for text in texts {
-        lines.push(Bytes::from_vec(Vec::from_slice(alloc, text)?))?;
+        lines.push(text)?;
     }
     Ok(lines)
 }
@@ -167,15 +167,13 @@ fn first_faults(rt: HostRuntime) -> Result<(), Fail> {
 #[test]
 fn fields_of_entries(rt: HostRuntime) -> Result<(), Fail> {
     let alloc = rt.alloc();
-    let lines = lines_of(
-        alloc,
-        &[
-            *b"     180       2      3s      4f      5l      6v      17      8d00010001D      1",
-            *b"     180     12w     13c       3       1     16r     17r     18n     19sD      2",
-            *b"       0       x      3s                               0        00000000D      3",
-            *b"                               1       0                                D      4",
-        ],
-    )?;
+    let texts = [
+        *b"     180       2      3s      4f      5l      6v      17      8d00010001D      1",
+        *b"     180     12w     13c       3       1     16r     17r     18n     19sD      2",
+        *b"       0       x      3s                               0        00000000D      3",
+        *b"                               1       0                                D      4",
+    ];
+    let lines = lines_of(alloc, &texts)?;
     let pairs = read_directory(alloc, &lines, 4)?;
     assert_eq!(rt; pairs.len(), 2);
     let read = &pairs[0];

@@ -71,12 +71,12 @@ fn attributes(alloc: Global, first: &[u8], second: &[u8]) -> Result<Bytes, Alloc
     requires second { length second.now ≡ 80 }
     ensures { IfOk result (λ attrs. attrs ≡ attributes first.now second.now) }
 {
-    let mut attrs = Bytes::new(alloc);
+    let mut attrs = Vec::with_capacity(alloc, 96)?;
     attrs.extend_from_slice(&first[16..48])?;
     attrs.extend_from_slice(&first[56..72])?;
     attrs.extend_from_slice(&second[8..24])?;
     attrs.extend_from_slice(&second[40..72])?;
-    Ok(attrs)
+    Ok(Bytes::from_vec(attrs))
 }
 
 fn blank_attributes(alloc: Global) -> Result<Bytes, AllocError>

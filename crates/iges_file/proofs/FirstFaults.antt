@@ -1,5 +1,5 @@
 -- The fault of a part is the file's first fault, where the parts before it are whole.
-use Rattle.std.proofs.Common.{◌≡◌, ℕ, List, length, Err, refl}
+use Rattle.std.proofs.Common.{◌≡◌, ℕ, ◌≤◌, List, length, Err, refl}
 use Rattle.iges_cards.specs.declared.reader.Cards.{Cards}
 use Rattle.iges_cards.specs.declared.faults.CardFault.{CardFault}
 use Rattle.iges_cards.specs.declared.faults.CardFault.TheVariants as card
@@ -16,11 +16,16 @@ use Rattle.iges_directory.specs.Global.{IsGlobal, IsFaultOf}
 use Rattle.iges_directory.specs.Pairs.{IsDirectory}
 use Rattle.iges_directory.specs.DirectoryFaults as directories
 use Rattle.iges_directory.specs.DirectoryReading.{directory_in}
+use Rattle.entity_graph.specs.declared.graph_faults.GraphFault.{GraphFault}
+use Rattle.entity_graph.specs.declared.graph_faults.GraphFault.TheVariants as graph
+use Rattle.entity_graph.specs.GraphFaults as graphs
+use Rattle.entity_graph.specs.FirstFaults.{IsFault}
 use Rattle.iges_file.specs.declared.faults.FileFault.{FileFault}
 use Rattle.iges_file.specs.declared.faults.FileFault.TheVariants as fault
-use Rattle.iges_file.specs.Faults.{IsOfText, IsOuter, of_card, of_global, of_directory}
-use Rattle.iges_file.specs.Entities.{IsRowsFault}
-use Rattle.iges_file.specs.Files.{Refused}
+use Rattle.iges_file.specs.Faults.{IsOfText, IsOuter, of_card, of_global, of_directory, of_graph}
+use Rattle.solid_base.specs.declared.entities.Entity.{Entity}
+use Rattle.iges_file.specs.Entities.{IsRowsFault, AreEntities, lines_of}
+use Rattle.iges_file.specs.Files.{most_lines, Refused}
 
 pub card_refused : (bytes : List ℕ) (f : CardFault) → (cards.IsOfText f → cards_in bytes ≡ Err f) → IsOfText (of_card f) → Refused bytes (of_card f)
 card_refused bytes (card.Memory e) h text = absurd text
@@ -54,6 +59,16 @@ rows_refused bytes cs g ps (fault.Global f) form whole all h text = absurd h
 rows_refused bytes cs g ps (fault.Directory f) form whole all h text = absurd h
 rows_refused bytes cs g ps (fault.BadRow entity f) form whole all h text = record { cards = cs; text = g; pairs = ps; form = form; globals = whole; directory = all; first = h }
 rows_refused bytes cs g ps fault.TooManyLines form whole all h text = absurd h
+rows_refused bytes cs g ps (fault.Graph f) form whole all h text = absurd h
+
+pub graph_refused : (bytes : List ℕ) (cs : Cards) (g : GlobalText) (ps : List Pair) (rows : List Entity) (f : GraphFault) → IsFixedForm bytes cs → IsGlobal cs.global g → IsDirectory (length cs.params) cs.directory ps
+    → AreEntities g.comma g.semi cs.params ps rows → lines_of g.comma g.semi rows ≤ most_lines → (graphs.IsOfText f → IsFault rows f) → IsOfText (of_graph f) → Refused bytes (of_graph f)
+graph_refused bytes cs g ps rows (graph.Memory e) form whole all es few h text = absurd text
+graph_refused bytes cs g ps rows (graph.Dangling entity to) form whole all es few h text = record { cards = cs; text = g; pairs = ps; rows = rows; form = form; globals = whole; directory = all; entities = es; few = few; first = h text }
+graph_refused bytes cs g ps rows (graph.WrongTarget entity to) form whole all es few h text = record { cards = cs; text = g; pairs = ps; rows = rows; form = form; globals = whole; directory = all; entities = es; few = few; first = h text }
+graph_refused bytes cs g ps rows (graph.Cycle entity) form whole all es few h text = record { cards = cs; text = g; pairs = ps; rows = rows; form = form; globals = whole; directory = all; entities = es; few = few; first = h text }
+graph_refused bytes cs g ps rows (graph.TooDeep entity) form whole all es few h text = record { cards = cs; text = g; pairs = ps; rows = rows; form = form; globals = whole; directory = all; entities = es; few = few; first = h text }
+graph_refused bytes cs g ps rows (graph.TooHeavy entity) form whole all es few h text = record { cards = cs; text = g; pairs = ps; rows = rows; form = form; globals = whole; directory = all; entities = es; few = few; first = h text }
 
 -- ---- a fault of a part is none of memory
 
@@ -79,3 +94,11 @@ directory_outer directory.TooManyEntities = λ e. cc
 directory_outer (directory.BadField entity field) = λ e. cc
 directory_outer (directory.TypeDiffers entity) = λ e. cc
 directory_outer (directory.TooMuchText entity) = λ e. cc
+
+pub graph_outer : (f : GraphFault) → IsOuter (of_graph f)
+graph_outer (graph.Memory e) = tt
+graph_outer (graph.Dangling entity to) = λ e. cc
+graph_outer (graph.WrongTarget entity to) = λ e. cc
+graph_outer (graph.Cycle entity) = λ e. cc
+graph_outer (graph.TooDeep entity) = λ e. cc
+graph_outer (graph.TooHeavy entity) = λ e. cc

@@ -1,19 +1,29 @@
 -- Lines that are joined one after the other, as a loop does.
-use Rattle.std.proofs.Common.{◌≡◌, ℕ, zero, suc, ◌+◌, ◌*◌, ◌<◌, ◌≤◌, List, [], ◌∷◌, ◌++◌, length, get_or, take, drop, arith, length-append, sym, ap, ◌∙◌, add-one, append_assoc}
+use Rattle.std.proofs.Common.{◌≡◌, ℕ, zero, suc, ◌+◌, ◌-◌, ◌*◌, ◌<◌, ◌≤◌, List, [], ◌∷◌, ◌++◌, length, take, drop, slice_get, Some, refl, arith, length-append, sym, ap, ◌∙◌, append_assoc}
 use Rattle.std.specs.List.{concat, AllByRecursion}
-use Rattle.std.proofs.Math.Seq.{drop-cons}
-use Rattle.std.proofs.Math.ListN.{drop_of_length-le}
 use Rattle.std.proofs.lemmas.List.{append-nil}
 
-pub join_next : (text : List ℕ) (lines : List (List ℕ)) (at : ℕ) (d : List ℕ) → at < length lines → text ++ concat (drop at lines) ≡ concat lines
-    → (text ++ get_or lines at d) ++ concat (drop (at + 1) lines) ≡ concat lines
-join_next text lines at d lt so_far =
-    let cut : drop at lines ≡ get_or lines at d ∷ drop (at + 1) lines = rw add-one (drop-cons lines at d lt) in
-    append_assoc text (get_or lines at d) (concat (drop (at + 1) lines)) ∙ ap (λ (ls : List (List ℕ)). text ++ concat ls) (sym cut) ∙ so_far
+-- the line at a place, and those behind it
+line_at : (lines : List (List ℕ)) (at : ℕ) (line : List ℕ) → slice_get lines at ≡ Some line → drop at lines ≡ line ∷ drop (suc at) lines
+line_at [] at line is = cc
+line_at (l ∷ lines) zero line is = let same : l ≡ line = cc in rw same refl
+line_at (l ∷ lines) (suc at) line is = line_at lines at line is
 
-pub join_done : (text : List ℕ) (lines : List (List ℕ)) (at : ℕ) → length lines ≤ at → text ++ concat (drop at lines) ≡ concat lines → text ≡ concat lines
-join_done text lines at done so_far =
-    sym (append-nil text) ∙ ap (λ (ls : List (List ℕ)). text ++ concat ls) (sym (drop_of_length-le lines done)) ∙ so_far
+-- a line more, of the lines from a place on that are before an end
+pub join_next : (text line : List ℕ) (lines : List (List ℕ)) (at end : ℕ) (total : List ℕ) → at < end → slice_get lines at ≡ Some line → text ++ concat (take (end - at) (drop at lines)) ≡ total
+    → (text ++ line) ++ concat (take (end - (at + 1)) (drop (at + 1) lines)) ≡ total
+join_next text line lines at end total less is so_far =
+    let count : end - at ≡ suc (end - (at + 1)) = omega (arith, less) in
+    let next : suc at ≡ at + 1 = omega arith in
+    let cut : take (end - at) (drop at lines) ≡ line ∷ take (end - (at + 1)) (drop (at + 1) lines) =
+    ap (λ (n : ℕ). take n (drop at lines)) count ∙ ap (λ (ls : List (List ℕ)). take (suc (end - (at + 1))) ls) (line_at lines at line is) ∙ ap (λ (n : ℕ). line ∷ take (end - (at + 1)) (drop n lines)) next in
+    append_assoc text line (concat (take (end - (at + 1)) (drop (at + 1) lines))) ∙ ap (λ (ls : List (List ℕ)). text ++ concat ls) (sym cut) ∙ so_far
+
+-- no line is left
+pub join_done : (text : List ℕ) (lines : List (List ℕ)) (at end : ℕ) (total : List ℕ) → end ≤ at → text ++ concat (take (end - at) (drop at lines)) ≡ total → text ≡ total
+join_done text lines at end total done so_far =
+    let none : end - at ≡ 0 = omega (arith, done) in
+    sym (append-nil text) ∙ ap (λ (n : ℕ). text ++ concat (take n (drop at lines))) (sym none) ∙ so_far
 
 -- each line has so many columns
 abbrev pub AreWide : ℕ → List (List ℕ) → Type 0

@@ -1,5 +1,5 @@
 -- Bytes are a file with one model and one end, or have one first fault: the outcome, part by part, and that every reading and every first fault is it.
-use Rattle.std.proofs.Common.{◌≡◌, ◌⊎◌, inl, inr, ℕ, ◌+◌, ◌*◌, List, [], ◌∷◌, ◌++◌, length, Bool, true, false, cond, nat_lt, Result, Ok, Err, refl, sym, ap, subst, ◌∙◌, arith, append_assoc, length-append}
+use Rattle.std.proofs.Common.{◌≡◌, ◌⊎◌, inl, inr, ℕ, ◌+◌, ◌*◌, ◌≤◌, List, [], ◌∷◌, ◌++◌, length, Bool, true, false, cond, nat_lt, Result, Ok, Err, refl, sym, ap, subst, ◌∙◌, arith, append_assoc, length-append}
 use Rattle.std.proofs.lemmas.Bool.Decides.{nat_tests}
 use Rattle.std.proofs.lemmas.List.{append-nil}
 use Rattle.solid_base.specs.declared.entities.Model.{Model}
@@ -21,6 +21,11 @@ use Rattle.iges_directory.specs.DirectoryReading.{directory_in}
 use Rattle.iges_directory.proofs.GlobalLaws.{global_once, one_fault, global_no_fault, global_or_fault}
 use Rattle.iges_directory.proofs.DirectoryForms.{directory_again, directory_takes}
 use Rattle.iges_parameters.specs.declared.faults.RowFault.{RowFault}
+use Rattle.solid_base.specs.Graph.{AreSound}
+use Rattle.entity_graph.specs.declared.graph_faults.GraphFault.{GraphFault}
+use Rattle.entity_graph.specs.FirstFaults.{IsFault}
+use Rattle.entity_graph.proofs.OneOfBoth as rules
+use Rattle.entity_graph.proofs.Outcomes as graphs
 use Rattle.iges_file.specs.declared.faults.FileFault.{FileFault}
 use Rattle.iges_file.specs.declared.faults.FileFault.TheVariants as fault
 use Rattle.iges_file.specs.Entities.{entity_in, AreEntities, IsBadRow, lines_of}
@@ -92,9 +97,13 @@ rows_say comma semi params front (p ∷ pairs) es good =
 abbrev model_of : Cards → GlobalText → List Entity → Model
 model_of cards g rows = record { start = cards.start; comma = g.comma; semi = g.semi; global = g.tokens; rows = rows }
 
+abbrev behind_lines : (cards : Cards) (g : GlobalText) (rows : List Entity) → AreSound rows ⊎ ((f : GraphFault) × IsFault rows f) → Outcome
+behind_lines cards g rows (inl sound) = Ok (model_of cards g rows, cards.end)
+behind_lines cards g rows (inr f) = Err (fault.Graph f.0)
+
 abbrev behind_rows : Cards → GlobalText → Result (List Entity) (ℕ × RowFault) → Outcome
 behind_rows cards g (Err x) = Err (fault.BadRow x.0 x.1)
-behind_rows cards g (Ok rows) = cond (nat_lt most_lines (lines_of g.comma g.semi rows)) (Err fault.TooManyLines) (Ok (model_of cards g rows, cards.end))
+behind_rows cards g (Ok rows) = cond (nat_lt most_lines (lines_of g.comma g.semi rows)) (Err fault.TooManyLines) (behind_lines cards g rows (rules.one_of_both rows))
 
 abbrev behind_directory : Cards → GlobalText → Result (List Pair) DirFault → Outcome
 behind_directory cards g (Err f) = Err (fault.Directory f)
@@ -136,11 +145,21 @@ rows_known : (bytes : List ℕ) (cards : Cards) (g : GlobalText) (pairs : List P
 rows_known bytes cards g pairs rows form whole all es =
     directory_known bytes cards g pairs form whole all ∙ ap (behind_rows cards g) (rows_again g.comma g.semi cards.params 0 pairs rows es)
 
+sound_known : (cards : Cards) (g : GlobalText) (rows : List Entity) → AreSound rows → (x : AreSound rows ⊎ ((f : GraphFault) × IsFault rows f)) → behind_lines cards g rows x ≡ Ok (model_of cards g rows, cards.end)
+sound_known cards g rows h (inl sound) = refl
+sound_known cards g rows h (inr f) = absurd (graphs.never_both rows f.0 f.1 h)
+
+graph_known : (cards : Cards) (g : GlobalText) (rows : List Entity) (f : GraphFault) → IsFault rows f → (x : AreSound rows ⊎ ((f : GraphFault) × IsFault rows f)) → behind_lines cards g rows x ≡ Err (fault.Graph f)
+graph_known cards g rows f h (inl sound) = absurd (graphs.never_both rows f h sound)
+graph_known cards g rows f h (inr k) = ap (λ (l : GraphFault). Err (fault.Graph l)) (graphs.one_fault rows k.0 f k.1 h)
+
 reads_is : (bytes : List ℕ) (model : Model) (end : ℕ) → Reads bytes model end → outcome bytes ≡ Ok (model, end)
 reads_is bytes model end h =
     let few : nat_lt most_lines (lines_of model.comma model.semi model.rows) ≡ false = (let f = h.few in grind (arith, nat_tests)) in
-    rows_known bytes h.cards (global_of model) h.pairs model.rows h.form h.globals h.directory h.entities
-    ∙ rw (few, sym h.start, sym h.place) refl
+    let sound = sound_known h.cards (global_of model) model.rows h.sound (rules.one_of_both model.rows) in
+    let behind : behind_rows h.cards (global_of model) (Ok model.rows) ≡ Ok (model_of h.cards (global_of model) model.rows, h.cards.end) = rw few sound in
+    let whole : ◌≡◌ {A = Outcome} (Ok (model_of h.cards (global_of model) model.rows, h.cards.end)) (Ok (model, end)) = rw (sym h.start, sym h.place) refl in
+    rows_known bytes h.cards (global_of model) h.pairs model.rows h.form h.globals h.directory h.entities ∙ behind ∙ whole
 
 refused_is : (bytes : List ℕ) (f : FileFault) → Refused bytes f → outcome bytes ≡ Err f
 refused_is bytes (fault.Memory e) h = absurd h
@@ -160,6 +179,11 @@ refused_is bytes (fault.BadRow entity f) h =
 refused_is bytes fault.TooManyLines h =
     let many : nat_lt most_lines (lines_of h.text.comma h.text.semi h.rows) ≡ true = (let m = h.many in grind (arith, nat_tests)) in
     rows_known bytes h.cards h.text h.pairs h.rows h.form h.globals h.directory h.entities ∙ rw many refl
+refused_is bytes (fault.Graph f) h =
+    let few : nat_lt most_lines (lines_of h.text.comma h.text.semi h.rows) ≡ false = (let k = h.few in grind (arith, nat_tests)) in
+    let first = graph_known h.cards h.text h.rows f h.first (rules.one_of_both h.rows) in
+    let behind : behind_rows h.cards h.text (Ok h.rows) ≡ Err (fault.Graph f) = rw few first in
+    rows_known bytes h.cards h.text h.pairs h.rows h.form h.globals h.directory h.entities ∙ behind
 
 -- ---- the outcome holds
 
@@ -167,13 +191,20 @@ abbrev pub Holds : List ℕ → Outcome → Type 0
 Holds bytes (Ok x) = Reads bytes x.0 x.1
 Holds bytes (Err f) = Refused bytes f
 
+lines_hold : (bytes : List ℕ) (cards : Cards) (g : GlobalText) (pairs : List Pair) (rows : List Entity) → IsFixedForm bytes cards → IsGlobal cards.global g → IsDirectory (length cards.params) cards.directory pairs
+    → AreEntities g.comma g.semi cards.params pairs rows → lines_of g.comma g.semi rows ≤ most_lines → (x : AreSound rows ⊎ ((f : GraphFault) × IsFault rows f)) → Holds bytes (behind_lines cards g rows x)
+lines_hold bytes cards g pairs rows form whole all es few (inl sound) =
+    record { cards = cards; pairs = pairs; form = form; place = refl; start = refl; globals = whole; directory = all; entities = es; few = few; sound = sound }
+lines_hold bytes cards g pairs rows form whole all es few (inr f) =
+    record { cards = cards; text = g; pairs = pairs; rows = rows; form = form; globals = whole; directory = all; entities = es; few = few; first = f.1 }
+
 rows_hold : (bytes : List ℕ) (cards : Cards) (g : GlobalText) (pairs : List Pair) → IsFixedForm bytes cards → IsGlobal cards.global g → IsDirectory (length cards.params) cards.directory pairs
     → (r : Result (List Entity) (ℕ × RowFault)) → RowsSay g.comma g.semi cards.params [] pairs [] r → Holds bytes (behind_rows cards g r)
 rows_hold bytes cards g pairs form whole all (Err x) h = record { cards = cards; text = g; pairs = pairs; form = form; globals = whole; directory = all; first = h }
 rows_hold bytes cards g pairs form whole all (Ok rows) h = go (nat_lt most_lines (lines_of g.comma g.semi rows)) refl where
-  go : (v : Bool) → nat_lt most_lines (lines_of g.comma g.semi rows) ≡ v → Holds bytes (cond v (Err fault.TooManyLines) (Ok (model_of cards g rows, cards.end)))
+  go : (v : Bool) → nat_lt most_lines (lines_of g.comma g.semi rows) ≡ v → Holds bytes (cond v (Err fault.TooManyLines) (behind_lines cards g rows (rules.one_of_both rows)))
   go true is = record { cards = cards; text = g; pairs = pairs; rows = rows; form = form; globals = whole; directory = all; entities = h; many = grind (arith, nat_tests) }
-  go false is = record { cards = cards; pairs = pairs; form = form; place = refl; start = refl; globals = whole; directory = all; entities = h; few = grind (arith, nat_tests) }
+  go false is = lines_hold bytes cards g pairs rows form whole all h (grind (arith, nat_tests)) (rules.one_of_both rows)
 
 directory_holds : (bytes : List ℕ) (cards : Cards) (g : GlobalText) → IsFixedForm bytes cards → IsGlobal cards.global g
     → (r : Result (List Pair) DirFault) → directory_in (length cards.params) cards.directory ≡ r → Holds bytes (behind_directory cards g r)

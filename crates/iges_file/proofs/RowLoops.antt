@@ -1,5 +1,5 @@
 -- The entities of entries, read one after the other, as a loop does; and their lines, counted so.
-use Rattle.std.proofs.Common.{◌≡◌, ℕ, zero, suc, ◌+◌, ◌*◌, List, [], ◌∷◌, ◌++◌, length, drop, Some, slice_get, Ok, Err, refl}
+use Rattle.std.proofs.Common.{◌≡◌, ℕ, zero, suc, ◌+◌, ◌*◌, List, [], ◌∷◌, ◌++◌, length, drop, Some, slice_get, Ok, Err, refl, arith}
 use Rattle.std.specs.List.{AllByRecursion}
 use Rattle.solid_base.specs.declared.entities.Entity.{Entity}
 use Rattle.iges_directory.specs.declared.pairs.Pair.{Pair}
@@ -53,3 +53,10 @@ pub all_behind : {X : Type 0} (P : X → Type 0) (xs : List X) (at : ℕ) → Al
 all_behind P [] at all = tt
 all_behind P (x ∷ xs) zero all = all.1
 all_behind P (x ∷ xs) (suc at) all = all_behind P xs at all
+
+-- an entity for each entry
+pub entities_counted : (comma semi : ℕ) (params : List (List ℕ)) (pairs : List Pair) (rows : List Entity) → AreEntities comma semi params pairs rows → length rows ≡ length pairs
+entities_counted comma semi params [] [] h = refl
+entities_counted comma semi params [] (e ∷ es) h = absurd h
+entities_counted comma semi params (p ∷ ps) [] h = absurd h
+entities_counted comma semi params (p ∷ ps) (e ∷ es) h = omega (arith, entities_counted comma semi params ps es h.1)

@@ -90,3 +90,4 @@ IsRowsFault comma semi params pairs (fault.Global f) = ⊥
 IsRowsFault comma semi params pairs (fault.Directory f) = ⊥
 IsRowsFault comma semi params pairs (fault.BadRow entity f) = IsBadRow comma semi params pairs entity f
 IsRowsFault comma semi params pairs fault.TooManyLines = ⊥
+IsRowsFault comma semi params pairs (fault.Graph f) = ⊥

@@ -12,6 +12,9 @@ use Rattle.iges_directory.specs.DirectoryFaults as directories
 use Rattle.iges_parameters.specs.declared.faults.RowFault.{RowFault}
 use Rattle.iges_parameters.specs.declared.faults.RowFault.TheVariants as row
 use Rattle.iges_parameters.specs.Faults as rows
+use Rattle.entity_graph.specs.declared.graph_faults.GraphFault.{GraphFault}
+use Rattle.entity_graph.specs.declared.graph_faults.GraphFault.TheVariants as graph
+use Rattle.entity_graph.specs.GraphFaults as graphs
 use Rattle.iges_file.specs.declared.faults.FileFault.{FileFault}
 use Rattle.iges_file.specs.declared.faults.FileFault.TheVariants as fault
 
@@ -23,6 +26,7 @@ fault_number (fault.Global f) = globals.fault_number f
 fault_number (fault.Directory f) = directories.fault_number f
 fault_number (fault.BadRow entity f) = 20
 fault_number fault.TooManyLines = 21
+fault_number (fault.Graph f) = graphs.fault_number f
 
 -- neither the fault nor the fault in it is want of memory
 abbrev pub IsOfText : FileFault → Type 0
@@ -32,6 +36,7 @@ IsOfText (fault.Global f) = globals.IsOfText f
 IsOfText (fault.Directory f) = directories.IsOfText f
 IsOfText (fault.BadRow entity f) = rows.IsOfText f
 IsOfText fault.TooManyLines = Unit {0}
+IsOfText (fault.Graph f) = graphs.IsOfText f
 
 -- want of memory is that of the file, and never that of a fault in it
 abbrev pub IsOuter : FileFault → Type 0
@@ -41,6 +46,7 @@ IsOuter (fault.Global f) = globals.IsOfText f
 IsOuter (fault.Directory f) = directories.IsOfText f
 IsOuter (fault.BadRow entity f) = rows.IsOfText f
 IsOuter fault.TooManyLines = Unit {0}
+IsOuter (fault.Graph f) = graphs.IsOfText f
 
 -- the words of a nested fault are those of the file's; the fault of a row names the entity first
 abbrev pub fault_words : FileFault → List ℕ
@@ -50,6 +56,7 @@ fault_words (fault.Global f) = globals.fault_words f
 fault_words (fault.Directory f) = directories.fault_words f
 fault_words (fault.BadRow entity f) = (codes "BadRow " ++ decimal entity) ++ codes " " ++ rows.fault_words f
 fault_words fault.TooManyLines = codes "TooManyLines"
+fault_words (fault.Graph f) = graphs.fault_words f
 
 -- a fault of a part as a fault of the file; want of memory is that of the file
 abbrev pub of_card : CardFault → FileFault
@@ -86,3 +93,11 @@ of_row entity (row.BadSize index) = fault.BadRow entity (row.BadSize index)
 of_row entity (row.BadAxis index) = fault.BadRow entity (row.BadAxis index)
 of_row entity row.BadMatrix = fault.BadRow entity row.BadMatrix
 of_row entity (row.BadPostfix index) = fault.BadRow entity (row.BadPostfix index)
+
+abbrev pub of_graph : GraphFault → FileFault
+of_graph (graph.Memory e) = fault.Memory e
+of_graph (graph.Dangling entity to) = fault.Graph (graph.Dangling entity to)
+of_graph (graph.WrongTarget entity to) = fault.Graph (graph.WrongTarget entity to)
+of_graph (graph.Cycle entity) = fault.Graph (graph.Cycle entity)
+of_graph (graph.TooDeep entity) = fault.Graph (graph.TooDeep entity)
+of_graph (graph.TooHeavy entity) = fault.Graph (graph.TooHeavy entity)

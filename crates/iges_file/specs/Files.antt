@@ -1,4 +1,4 @@
--- A whole file: the model that it is read as, or its first fault. References between entities aren't looked at yet.
+-- A whole file: the model that it is read as, or its first fault.
 use Rattle.std.specs.Prelude.{◌≡◌, ℕ, ◌<◌, ◌≤◌, List, length, Err}
 use Rattle.solid_base.specs.declared.entities.Model.{Model}
 use Rattle.solid_base.specs.declared.entities.Entity.{Entity}
@@ -14,6 +14,9 @@ use Rattle.iges_directory.specs.Global.{IsGlobal, IsFirstFault}
 use Rattle.iges_directory.specs.Pairs.{IsDirectory}
 use Rattle.iges_directory.specs.DirectoryReading.{directory_in}
 use Rattle.iges_parameters.specs.declared.faults.RowFault.{RowFault}
+use Rattle.entity_graph.specs.declared.graph_faults.GraphFault.{GraphFault}
+use Rattle.entity_graph.specs.FirstFaults.{IsFault}
+use Rattle.solid_base.specs.Graph.{AreSound}
 use Rattle.iges_file.specs.declared.faults.FileFault.{FileFault}
 use Rattle.iges_file.specs.declared.faults.FileFault.TheVariants as fault
 use Rattle.iges_file.specs.Entities.{AreEntities, IsBadRow, lines_of}
@@ -37,6 +40,7 @@ pub record Reads (bytes : List ℕ) (model : Model) (end : ℕ) : Type 0 where
   pub directory : IsDirectory (length cards.params) cards.directory pairs
   pub entities : AreEntities model.comma model.semi cards.params pairs model.rows
   pub few : lines_of model.comma model.semi model.rows ≤ most_lines
+  pub sound : AreSound model.rows
 
 -- ---- the first fault, part by part
 
@@ -78,6 +82,19 @@ pub record HasTooManyLines (bytes : List ℕ) : Type 0 where
   pub entities : AreEntities text.comma text.semi cards.params pairs rows
   pub many : most_lines < lines_of text.comma text.semi rows
 
+-- all records are read and take few enough lines, and the references between entities have this first fault
+pub record HasGraphFault (bytes : List ℕ) (f : GraphFault) : Type 0 where
+  pub cards : Cards
+  pub text : GlobalText
+  pub pairs : List Pair
+  pub rows : List Entity
+  pub form : IsFixedForm bytes cards
+  pub globals : IsGlobal cards.global text
+  pub directory : IsDirectory (length cards.params) cards.directory pairs
+  pub entities : AreEntities text.comma text.semi cards.params pairs rows
+  pub few : lines_of text.comma text.semi rows ≤ most_lines
+  pub first : IsFault rows f
+
 -- the bytes have this first fault. Want of memory is none of theirs
 abbrev pub Refused : List ℕ → FileFault → Type 0
 Refused bytes (fault.Memory e) = ⊥
@@ -86,3 +103,4 @@ Refused bytes (fault.Global f) = HasGlobalFault bytes f
 Refused bytes (fault.Directory f) = HasDirectoryFault bytes f
 Refused bytes (fault.BadRow entity f) = HasBadRow bytes entity f
 Refused bytes fault.TooManyLines = HasTooManyLines bytes
+Refused bytes (fault.Graph f) = HasGraphFault bytes f

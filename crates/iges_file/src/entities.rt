@@ -1,4 +1,4 @@
-ghost use Rattle.std.specs.Prelude.{◌≡◌, ◌≢◌, ◌≤◌, ◌+◌, ◌-◌, ◌*◌, ◌^◌, ◌++◌, length, Ok, Err, IfOk, IfErr, OnOk};
+ghost use Rattle.std.specs.Prelude.{◌≡◌, ◌≢◌, ◌≤◌, ◌+◌, ◌-◌, ◌*◌, ◌^◌, length, take, drop, Ok, Err, IfOk, IfErr, OnOk};
 ghost use Rattle.std.specs.List.{AllByRecursion, concat, suffix_len};
 ghost use Rattle.solid_base.specs.Spelling.{is_blank, before_blanks};
 ghost use Rattle.iges_fields.specs.Delimiters.{AreDelimiters};
@@ -7,28 +7,38 @@ ghost use Rattle.iges_file.specs.Entities.{text_of, kept_entity, entity_with, en
 
 use iges_directory::Pair;
 use iges_parameters::{RowFault, is_read, read_row};
-use solid_base::{Bytes, Entity, Row, RowText, Tokens};
+use solid_base::{BorrowedLines, Bytes, Entity, Row, RowText, Tokens};
 use std::alloc::{AllocError, Global};
 
-/// Lines of 64 columns, joined.
-fn joined(alloc: Global, lines: &[Bytes]) -> Result<Bytes, AllocError>
-    ensures { IfOk result (λ text. text ≡ concat lines.now) }
+/// The columns of a parameter line.
+const WIDTH: usize = 64;
+
+/// So many lines of 64 columns from a place on, joined.
+fn joined(
+    alloc: Global,
+    lines: &BorrowedLines,
+    first: u32,
+    count: u32,
+) -> Result<Vec<u8>, AllocError>
+    requires lines { first + count ≤ length lines.now }
+    requires few { count ≤ 500000 }
+    ensures { IfOk result (λ text. text.items ≡ concat (take count (drop first lines.now))) }
 {
-    let mut text = Bytes::new(alloc);
-    for line in lines {
-        text.extend_from_slice(line.as_slice())?;
+    let mut text = Vec::with_capacity(alloc, count as usize * WIDTH)?;
+    for at in first as usize..first as usize + count as usize {
+        text.extend_from_slice(lines.get(at))?;
     }
     Ok(text)
 }
 
 /// The record of an entry: its parameter lines, joined.
-fn record(alloc: Global, params: &[Bytes], pair: &Pair) -> Result<Bytes, AllocError>
+fn record(alloc: Global, params: &BorrowedLines, pair: &Pair) -> Result<Vec<u8>, AllocError>
     requires first { 1 ≤ pair.now.first }
     requires lines { pair.now.first - 1 + pair.now.count ≤ length params.now }
-    ensures { IfOk result (λ text. text ≡ text_of params.now pair.now) }
+    requires few { pair.now.count ≤ 500000 }
+    ensures { IfOk result (λ text. text.items ≡ text_of params.now pair.now) }
 {
-    let first = pair.first as usize - 1;
-    joined(alloc, &params[first..first + pair.count as usize])
+    joined(alloc, params, pair.first - 1, pair.count)
 }
 
 fn blanks_behind(text: &[u8]) -> usize
@@ -41,30 +51,32 @@ fn blanks_behind(text: &[u8]) -> usize
         .count()
 }
 
-/// A text without the blanks behind it.
-fn before_blanks(alloc: Global, text: &[u8]) -> Result<Bytes, AllocError>
-    ensures { IfOk result (λ kept. kept ≡ before_blanks text.now) }
+/// A text without the blanks behind it, in its own room.
+fn before_blanks(text: Vec<u8>) -> Bytes
+    ensures { result ≡ before_blanks text.items }
 {
-    let kept = &text[..text.len() - blanks_behind(text)];
-    Ok(Bytes::from_vec(Vec::from_slice(alloc, kept)?))
+    let mut kept = text;
+    let count = kept.len() - blanks_behind(&kept);
+    kept.truncate(count);
+    Bytes::from_vec(kept)
 }
 
 /// An entity that isn't read keeps its record without the blanks behind it.
-fn kept_entity(alloc: Global, pair: Pair, text: &[u8]) -> Result<Entity, AllocError>
-    ensures kept { IfOk result (λ entity. entity ≡ kept_entity pair text.now) }
-    ensures writable { IfOk result IsWritable }
+fn kept_entity(alloc: Global, pair: Pair, text: Vec<u8>) -> Entity
+    ensures kept { result ≡ kept_entity pair text.items }
+    ensures writable { IsWritable result }
 {
     let row = Row::Opaque {
         kind: pair.kind,
         form: pair.form,
         matrix: pair.matrix,
-        text: before_blanks(alloc, text)?,
+        text: before_blanks(text),
     };
-    Ok(Entity {
+    Entity {
         row,
         attrs: pair.attrs,
         tail: Tokens::new(alloc),
-    })
+    }
 }
 
 /// The entity of an entry whose record has this text.
@@ -74,22 +86,22 @@ fn entity_with(
     comma: u8,
     semi: u8,
     pair: Pair,
-    text: Bytes,
+    text: Vec<u8>,
 ) -> Result<Entity, RowFault>
-    requires text { length text ≤ 2 ^ 25 }
+    requires text { length text.items ≤ 2 ^ 25 }
     requires delimiters { AreDelimiters comma semi }
-    ensures found { IfOk result (λ entity. entity_with comma semi pair text ≡ Ok entity) }
-    ensures first_fault { IfErr result (λ fault. IsOfText fault → entity_with comma semi pair text ≡ Err fault) }
+    ensures found { IfOk result (λ entity. entity_with comma semi pair text.items ≡ Ok entity) }
+    ensures first_fault { IfErr result (λ fault. IsOfText fault → entity_with comma semi pair text.items ≡ Err fault) }
     ensures writable { IfOk result IsWritable }
 {
     if !is_read(pair.kind, pair.form) {
-        return Ok(kept_entity(alloc, pair, text.as_slice())?);
+        return Ok(kept_entity(alloc, pair, text));
     }
     let source = RowText {
         kind: pair.kind,
         form: pair.form,
         matrix: pair.matrix,
-        text,
+        text: Bytes::from_vec(text),
     };
     let (row, tail) = read_row(alloc, &source, comma, semi)?;
     Ok(Entity {
@@ -105,7 +117,7 @@ pub fn read_entity(
     alloc: Global,
     comma: u8,
     semi: u8,
-    params: &[Bytes],
+    params: &BorrowedLines,
     pair: Pair,
 ) -> Result<Entity, RowFault>
     requires lines { HasLines (length params.now) pair }

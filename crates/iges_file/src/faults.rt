@@ -1,6 +1,7 @@
 ghost use Rattle.std.specs.Prelude.{◌≡◌, IfOk};
 ghost use Rattle.iges_file.specs.Faults.{IsOfText, fault_number, fault_words};
 
+use entity_graph::GraphFault;
 use iges_cards::CardFault;
 use iges_directory::{DirFault, GlobalFault};
 use iges_parameters::RowFault;
@@ -29,6 +30,9 @@ pub enum FileFault {
     /// The records would take more than 300,000 lines.
     #[error("the records take too many lines")]
     TooManyLines,
+    /// The references between entities are faulty.
+    #[error("the references between entities are faulty")]
+    Graph(GraphFault),
 }
 
 impl From<AllocError> for FileFault {
@@ -80,6 +84,19 @@ impl From<DirFault> for FileFault {
     }
 }
 
+impl From<GraphFault> for FileFault {
+    ghost use Rattle.iges_file.specs.Faults.{of_graph};
+
+    ghost from_gives = { λ f fault. fault ≡ of_graph f };
+
+    fn from(f: GraphFault) -> FileFault {
+        match f {
+            GraphFault::Memory(e) => FileFault::Memory(e),
+            other => FileFault::Graph(other),
+        }
+    }
+}
+
 fn bad_row(alloc: Global, entity: u32, fault: &RowFault) -> Result<Bytes, AllocError>
     requires { IsOfText (FileFault.BadRow entity fault.now) }
     ensures { IfOk result (λ words. words ≡ fault_words (FileFault.BadRow entity fault.now)) }
@@ -102,6 +119,7 @@ impl FileFault {
             FileFault::Directory(fault) => fault.number(),
             FileFault::BadRow(_, _) => 20,
             FileFault::TooManyLines => 21,
+            FileFault::Graph(fault) => fault.number(),
         }
     }
 
@@ -118,6 +136,7 @@ impl FileFault {
             FileFault::Directory(fault) => fault.write_fault(alloc),
             FileFault::BadRow(entity, fault) => bad_row(alloc, *entity, fault),
             FileFault::TooManyLines => word(alloc, b"TooManyLines"),
+            FileFault::Graph(fault) => fault.write_fault(alloc),
         }
     }
 }

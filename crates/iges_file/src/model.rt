@@ -6,6 +6,7 @@ ghost use Rattle.iges_file.specs.Files.{Reads, Refused};
 
 use crate::faults::FileFault;
 use crate::rows::{count_lines, read_rows};
+use entity_graph::Graph;
 use iges_cards::read_cards;
 use iges_directory::{read_directory, read_global};
 use solid_base::Model;
@@ -18,11 +19,12 @@ const MOST_LINES: u64 = 300_000;
 /// line, behind which nothing is read.
 ///
 /// The row at place i is that of the entity with the number 2i + 1. Entities of types and forms that
-/// aren't read keep their records. References between entities aren't looked at yet.
+/// aren't read keep their records.
 ///
 /// The first fault is told: that of the lines; of the global section; of the directory; BadRow, with the
 /// number of the first entity whose record has a fault and that fault; TooManyLines, where the records
-/// would take more than 300,000 lines. Memory comes where memory is wanting.
+/// would take more than 300,000 lines; that of the references between entities. Memory comes where
+/// memory is wanting.
 pub fn read_model(alloc: Global, bytes: &[u8]) -> Result<(Model, usize), FileFault>
     requires { length bytes.now ≤ 2 ^ 25 }
     ensures reads { IfOk result (λ read. Reads bytes.now read.0 read.1) }
@@ -37,6 +39,7 @@ pub fn read_model(alloc: Global, bytes: &[u8]) -> Result<(Model, usize), FileFau
     if count_lines(alloc, global.comma, global.semi, &rows)? > MOST_LINES {
         return Err(FileFault::TooManyLines);
     }
+    Graph::check(alloc, &rows)?;
     let model = Model {
         start: cards.start,
         comma: global.comma,

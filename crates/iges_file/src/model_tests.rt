@@ -99,7 +99,7 @@ fn keeps_what_is_not_read(rt: HostRuntime) -> Result<(), AllocError> {
 }
 
 fn words(rt: &impl Abort, alloc: Global, bytes: &[u8]) -> Result<Vec<u8>, AllocError> {
-    assert!(rt; bytes.len() <= 1000);
+    assert!(rt; bytes.len() <= 10_000);
     match read_model(alloc, bytes) {
         Ok(_read) => Vec::from_slice(alloc, b"read"),
         Err(FileFault::Memory(_error)) => Vec::from_slice(alloc, b"memory"),
@@ -169,6 +169,108 @@ fn tells_the_first_fault(rt: HostRuntime) -> Result<(), AllocError> {
         assert!(rt; length <= bytes.len());
         let found = words(&rt, alloc, &bytes[..length])?;
         assert!(rt; found.as_slice() == want, "cut {length}");
+    }
+    Ok(())
+}
+
+/// An entity of a file: its type, the number of its matrix, and its record, which takes one line.
+type Record = (u32, u32, &'static str);
+
+/// Adds a line: a text in columns 1 to 72, the letter of its section, and its number there.
+fn push_card(
+    alloc: Global,
+    file: &mut Vec<u8>,
+    text: &str,
+    section: &str,
+    number: usize,
+) -> Result<(), AllocError> {
+    let card = format!(in alloc; "{text:<72}{section}{number:>7}\n")?;
+    file.extend_from_slice(card.as_bytes())?;
+    Ok(())
+}
+
+/// The file of these entities, of which that at place i, counted from 0, has the number 2i + 1.
+fn file_of(rt: &impl Abort, alloc: Global, records: &[Record]) -> Result<Vec<u8>, AllocError> {
+    assert!(rt; records.len() <= 10);
+    let mut file = Vec::new(alloc);
+    push_card(alloc, &mut file, "Some entities.", "S", 1)?;
+    push_card(alloc, &mut file, ",,;", "G", 1)?;
+    for place in 0..records.len() {
+        let (kind, matrix, _) = records[place];
+        let line = place + 1;
+        let first = format!(in alloc; "{kind:>8}{line:>8}{matrix:>40}        00000000")?;
+        let second = format!(in alloc; "{kind:>8}                       1       0")?;
+        push_card(alloc, &mut file, first.as_str(), "D", 2 * place + 1)?;
+        push_card(alloc, &mut file, second.as_str(), "D", 2 * place + 2)?;
+    }
+    for place in 0..records.len() {
+        push_card(alloc, &mut file, records[place].2, "P", place + 1)?;
+    }
+    let (lines, count) = (2 * records.len(), records.len());
+    let last = format!(in alloc; "S      1G      1D{lines:>7}P{count:>7}")?;
+    push_card(alloc, &mut file, last.as_str(), "T", 1)?;
+    Ok(file)
+}
+
+#[test]
+fn tells_faults_of_references(rt: HostRuntime) -> Result<(), AllocError> {
+    let alloc = rt.alloc();
+    let ball = "158,1.;";
+    let turn = "124,0.,-1.,0.,0.,1.,0.,0.,0.,0.,0.,1.,0.;";
+    let cases: [(&[Record], &[u8]); 12] = [
+        // An instance of a ball that is moved by one matrix behind another.
+        (
+            &[
+                (430, 0, "430,3;"),
+                (158, 5, ball),
+                (124, 7, turn),
+                (124, 0, turn),
+            ],
+            b"read",
+        ),
+        // A number past the end, an even one, and that of a null row.
+        (&[(158, 0, ball), (430, 0, "430,5;")], b"Dangling 3 5"),
+        (&[(158, 2, ball)], b"Dangling 1 2"),
+        (
+            &[(0, 0, "0;"), (158, 0, ball), (180, 0, "180,3,-3,-1,1;")],
+            b"Dangling 5 1",
+        ),
+        // A matrix is wanted, and the other way round.
+        (&[(158, 3, ball), (158, 0, ball)], b"WrongTarget 1 3"),
+        (
+            &[(158, 0, ball), (124, 0, turn), (184, 0, "184,2,1,3;")],
+            b"WrongTarget 5 3",
+        ),
+        // Itself, and through what comes behind a matrix.
+        (&[(158, 0, ball), (430, 0, "430,3;")], b"Cycle 3"),
+        (
+            &[(158, 0, ball), (124, 5, turn), (124, 3, turn)],
+            b"Cycle 3",
+        ),
+        (
+            &[(158, 3, ball), (124, 5, turn), (124, 3, turn)],
+            b"Cycle 1",
+        ),
+        // What isn't read names nothing, not even a matrix.
+        (&[(110, 7, "110;")], b"read"),
+        // The records come first, and then each kind of fault in all rows before the next.
+        (
+            &[(158, 9, ball), (158, 0, "158,0.;")],
+            b"BadRow 3 BadSize 1",
+        ),
+        (
+            &[
+                (430, 0, "430,1;"),
+                (158, 1, ball),
+                (184, 0, "184,2,1,3,0,9;"),
+            ],
+            b"Dangling 5 9",
+        ),
+    ];
+    for (records, want) in cases {
+        let bytes = file_of(&rt, alloc, records)?;
+        let found = words(&rt, alloc, &bytes)?;
+        assert!(rt; found.as_slice() == want, "want {want:?}");
     }
     Ok(())
 }

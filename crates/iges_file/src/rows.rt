@@ -8,7 +8,7 @@ use crate::entities::read_entity;
 use crate::faults::FileFault;
 use iges_directory::Pair;
 use iges_parameters::{RowFault, row_line_count};
-use solid_base::{Entity, Lines, Rows};
+use solid_base::{BorrowedLines, Entity, Rows};
 use std::alloc::{AllocError, Global};
 use std::sync::Arc;
 
@@ -35,7 +35,7 @@ pub fn read_rows(
     alloc: Global,
     comma: u8,
     semi: u8,
-    params: &Lines,
+    params: &BorrowedLines,
     pairs: Vec<Pair>,
 ) -> Result<Rows, FileFault>
     requires few { length pairs.items ≤ 100000 }
@@ -50,7 +50,7 @@ pub fn read_rows(
     let mut rows = Rows::new(alloc);
     let mut number = 1;
     for pair in pairs {
-        match read_entity(alloc, comma, semi, params.as_slice(), pair) {
+        match read_entity(alloc, comma, semi, params, pair) {
             Ok(entity) => push_entity(alloc, &mut rows, entity)?,
             Err(fault) => return Err(of_row(number, fault)),
         }

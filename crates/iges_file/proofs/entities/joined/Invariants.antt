@@ -1,8 +1,8 @@
-use Rattle.std.proofs.Common.{◌≡◌, ◌++◌, drop}
+use Rattle.std.proofs.Common.{◌≡◌, ◌+◌, ◌-◌, ◌++◌, take, drop}
 use Rattle.std.specs.List.{concat}
 use Rattle.iges_file.proofs.entities.joined.Given as goal
 
-abbrev pub invariant-loop-line : goal.invariant-loop-line
-invariant-loop-line l = record {
-  so_far : l.text ++ concat (drop l.line-index l.lines) ≡ concat l.lines;
+abbrev pub invariant-loop-at : goal.invariant-loop-at
+invariant-loop-at l = record {
+  so_far : l.text.items ++ concat (take (l.first + l.count - l.at) (drop l.at l.lines)) ≡ concat (take l.count (drop l.first l.lines));
 }

@@ -1,8 +1,11 @@
-use Rattle.std.proofs.Common.{length, refl, arith}
+use Rattle.std.proofs.Common.{◌≤◌, length, refl, arith}
 use Rattle.std.proofs.lemmas.Result.{err_from_is_err_and}
 use Rattle.iges_file.proofs.FormFacts.{form_within}
 use Rattle.iges_file.proofs.DirectoryFacts.{few_pairs, all_have_lines}
-use Rattle.iges_file.proofs.FirstFaults.{global_refused, directory_refused, rows_refused}
+use Rattle.iges_file.proofs.FirstFaults.{global_refused, directory_refused, rows_refused, graph_refused}
+use Rattle.iges_file.proofs.RowLoops.{entities_counted}
+use Rattle.iges_file.specs.Entities.{lines_of}
+use Rattle.iges_file.specs.Files.{most_lines}
 use Rattle.iges_file.proofs.model.read_model.Goals as goal
 
 pub read_global-requires : goal.read_global-requires
@@ -65,6 +68,20 @@ returns-then-branch-gt-MOST_LINES-clause-refused c =
       many = omega (arith, c.in_ok-count_lines.ensures, c.if-branch-gt-MOST_LINES.true);
     }
 
+pub check-requires : goal.check-requires
+check-requires c =
+    let all = rw c.len.ensures at c.in_ok-pairs.ensures.directory in
+    let same = entities_counted c.in_ok-global.global.comma c.in_ok-global.global.semi c.in_ok-cards.cards.params c.in_ok-pairs.pairs.items c.in_ok-rows.rows c.in_ok-rows.ensures.found in
+    rw same (few_pairs (length c.in_ok-cards.cards.params) c.in_ok-cards.cards.directory c.in_ok-pairs.pairs.items all)
+
+pub returns-in_err-check-clause-refused : goal.returns-in_err-check-clause-refused
+returns-in_err-check-clause-refused c =
+    let p = err_from_is_err_and c.from_residual-in_err-check.result c.from_residual-in_err-check.ensures.1 in
+    let whole = rw c.as_slice.ensures at c.in_ok-global.ensures.found in
+    let all = rw c.len.ensures at c.in_ok-pairs.ensures.directory in
+    let few : lines_of c.in_ok-global.global.comma c.in_ok-global.global.semi c.in_ok-rows.rows ≤ most_lines = omega (arith, c.in_ok-count_lines.ensures, c.if-branch-gt-MOST_LINES.false) in
+    rw (p.1, p.2) (graph_refused c.args.bytes.now c.in_ok-cards.cards c.in_ok-global.global c.in_ok-pairs.pairs.items c.in_ok-rows.rows c.in_err-check.field-0.0 c.in_ok-cards.ensures.fixed_form whole all c.in_ok-rows.ensures.found few c.in_err-check.ensures.first_fault)
+
 pub returns-clause-reads : goal.returns-clause-reads
 returns-clause-reads c =
     let whole = rw c.as_slice.ensures at c.in_ok-global.ensures.found in
@@ -79,4 +96,5 @@ returns-clause-reads c =
       directory = all;
       entities = c.in_ok-rows.ensures.found;
       few = omega (arith, c.in_ok-count_lines.ensures, c.if-branch-gt-MOST_LINES.false);
+      sound = c.in_ok-check.ensures.sound;
     }
