@@ -5,11 +5,10 @@ use Rattle.solid_base.specs.declared.entities.Model.{Model}
 use Rattle.solid_base.specs.declared.entities.Entity.{Entity}
 use Rattle.solid_base.specs.declared.solids.Row.{Row}
 use Rattle.solid_base.specs.declared.solids.Row.TheVariants as row
-use Rattle.iges_directory.specs.declared.pairs.Pair.{Pair}
 use Rattle.iges_file.specs.declared.faults.FileFault.{FileFault}
-use Rattle.iges_file.specs.Entities.{AreEntities}
 use Rattle.iges_file.specs.Files.{Reads, Refused}
 use Rattle.iges_file.proofs.DirectoryFacts.{few_pairs}
+use Rattle.iges_file.proofs.RowLoops.{entities_counted}
 use Rattle.iges_file.proofs.OneOutcome.{one_of_both, reads_once, first_fault, never_both}
 use Rattle.solid_top.specs.declared.checks.Tallies.{Tallies}
 use Rattle.solid_top.specs.declared.faults.TopFault.TheVariants as fault
@@ -19,12 +18,6 @@ use Rattle.solid_top.specs.declared.statuses.Status.TheVariants as status
 use Rattle.solid_top.specs.Checks.{with_row, tallies_from, IsChecked, check_text}
 use Rattle.solid_top.specs.Replay.{IsRefusal}
 use Rattle.solid_top.specs.TopFaults.{refused_text}
-
-entities_counted : (comma semi : ℕ) (params : List (List ℕ)) (pairs : List Pair) (rows : List Entity) → AreEntities comma semi params pairs rows → length rows ≡ length pairs
-entities_counted comma semi params [] [] h = refl
-entities_counted comma semi params [] (e ∷ es) h = absurd h
-entities_counted comma semi params (p ∷ ps) [] h = absurd h
-entities_counted comma semi params (p ∷ ps) (e ∷ es) h = omega (arith, entities_counted comma semi params ps es h.1)
 
 -- a file has at most 100,000 entities
 pub few_rows : (bytes : List ℕ) (model : Model) (end : ℕ) → Reads bytes model end → length model.rows ≤ 100000

@@ -1,42 +1,12 @@
--- Whether rows are answered, and whether bytes ask questions.
+-- Whether bytes ask questions.
 use Rattle.std.proofs.Common.{◌≡◌, ◌⊎◌, inl, inr, ℕ, zero, suc, ◌<◌, ◌≤◌, List, [], ◌∷◌, length, Option, None, Some, refl, sym, ap, subst, ◌∙◌, arith}
-use Rattle.solid_base.specs.declared.entities.Entity.{Entity}
-use Rattle.solid_base.specs.declared.solids.Row.{Row}
-use Rattle.solid_base.specs.declared.solids.Row.TheVariants as row
 use Rattle.solid_base.specs.Series.{Spells}
 use Rattle.solid_base.proofs.Pairs.{same_pair}
 use Rattle.solid_top.specs.declared.questions.PointQuestion.{PointQuestion}
 use Rattle.solid_top.specs.FormReading.{point_at}
-use Rattle.solid_top.specs.Models.{IsBuiltRow, AreBuilt}
 use Rattle.solid_top.specs.Points.{IsPointLine}
 use Rattle.solid_top.proofs.AnswerLaws.{point_shorter}
 use Rattle.solid_top.proofs.PointLaws.{point_again, point_takes}
-
--- ---- rows
-
-zero_or_not : (n : ℕ) → (n ≡ 0) ⊎ (n ≡ 0 → ⊥)
-zero_or_not zero = inl refl
-zero_or_not (suc n) = inr (λ e. omega (arith, e))
-
-row_built_or_not : (r : Row) → IsBuiltRow r ⊎ (IsBuiltRow r → ⊥)
-row_built_or_not row.Null = inl tt
-row_built_or_not (row.Opaque kind form matrix text) = inr (λ h. h)
-row_built_or_not (row.Matrix form affine next) = inr (λ h. h)
-row_built_or_not (row.Prim p matrix) = zero_or_not matrix
-row_built_or_not (row.Tree items matrix) = inr (λ h. h)
-row_built_or_not (row.Assembly items matrix) = inr (λ h. h)
-row_built_or_not (row.Instance child matrix) = inr (λ h. h)
-
-both_or_not : (A B : Type 0) → A ⊎ (A → ⊥) → B ⊎ (B → ⊥) → (A × B) ⊎ (A × B → ⊥)
-both_or_not A B (inl a) (inl b) = inl (a, b)
-both_or_not A B (inl a) (inr never) = inr (λ h. never h.1)
-both_or_not A B (inr never) b = inr (λ h. never h.0)
-
-pub built_or_not : (rows : List Entity) → AreBuilt rows ⊎ (AreBuilt rows → ⊥)
-built_or_not [] = inl tt
-built_or_not (e ∷ es) = both_or_not (IsBuiltRow e.row) (AreBuilt es) (row_built_or_not e.row) (built_or_not es)
-
--- ---- questions
 
 -- bytes ask questions, of which the first has this place
 abbrev pub AsksFrom : ℕ → List ℕ → Type 0

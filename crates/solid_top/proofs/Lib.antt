@@ -2,11 +2,13 @@ pub mod AnswerLaws
 pub mod CheckLaws
 pub mod Deciding
 pub mod Numbers
+pub mod OneAnswer
 pub mod PlainLaws
 pub mod PointLaws
 pub mod Reading
 pub mod ReadingLaws
 pub mod ReplayLaws
+pub mod RootLaws
 pub mod RowLaws
 pub mod RunLaws
 pub mod StepLaws

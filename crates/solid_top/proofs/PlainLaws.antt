@@ -1,152 +1,185 @@
 -- What is read as a plain number is spelt so, and what is spelt so is read.
-use Rattle.std.proofs.Common.{◌≡◌, ℕ, ◌<◌, ◌≤◌, List, [], ◌∷◌, ◌++◌, Bool, true, false, cond, not, ◌&&◌, ◌==◌, nat_lt, nat_le, length, take, drop, None, Some, IsTrue, refl, sym, subst, arith, one-add, append-nil, ℤ}
-use Rattle.std.specs.List.{prefix_len, list_all}
+use Rattle.std.proofs.Common.{◌≡◌, ◌≢◌, ℕ, ◌+◌, ◌*◌, ◌-◌, ◌^◌, ◌<◌, ◌≤◌, List, [], ◌∷◌, ◌++◌, Bool, true, false, cond, ◌&&◌, ◌==◌, nat_lt, nat_le, length, None, Some, IsTrue, refl, sym, ap, subst, ◌∙◌, arith, append_assoc, ℤ}
 use Rattle.std.proofs.lemmas.List.{take-append-drop}
-use Rattle.std.proofs.Math.Seq.{take-append_seam, drop-append_seam}
-use Rattle.solid_base.specs.Digits.{is_digit, AreDigits}
+use Rattle.solid_base.specs.Digits.{is_digit, AreDigits, number_of}
 use Rattle.solid_base.specs.Range.{far}
+use Rattle.solid_base.specs.Spelling.{digit_count, behind_digits}
+use Rattle.solid_base.proofs.Pairs.{same_pair}
 use Rattle.solid_base.proofs.Prefix.{front_passes}
 use Rattle.solid_top.specs.declared.plain_numbers.DecimalPoint.{DecimalPoint}
 use Rattle.solid_top.specs.declared.plain_numbers.DecimalPoint.TheVariants as point
 use Rattle.solid_top.specs.PlainNumbers.{PlainNumber, HasDigits, HasPoint, IsPlain, plain_text, sign_text, decimals_text, magnitude, signed}
-use Rattle.solid_top.specs.PlainReading.{are_decimals, behind_whole, behind_sign, parts_at, has_point, plain_at}
-use Rattle.solid_top.proofs.StepLaws.{both, turned, le_test, test_le, test_same, passed, both_gave}
+use Rattle.solid_top.specs.PlainReading.{front_digits, step_of, decimals_at, without_point, fraction_at, magnitude_at, behind_minus, plain_at}
+use Rattle.solid_top.specs.Reading.{◌>>=◌}
+use Rattle.solid_top.proofs.Strips.{front_again, behind_again}
+use Rattle.solid_top.proofs.StepLaws.{both, le_test, test_le, lt_test, test_lt, test_same, test_other, passed, both_gave}
 
-pub all_test : (ds : List ℕ) → AreDigits ds → list_all is_digit ds ≡ true
-all_test [] h = refl
-all_test (d ∷ ds) h = rw (h.0, all_test ds h.1) refl
+-- a byte that may end a number
+pub record IsStop (stop : ℕ) : Type 0 where
+  pub digit : is_digit stop ≡ false
+  pub minus : 45 ≢ stop
+  pub point : 46 ≢ stop
 
-pub test_all : (ds : List ℕ) → list_all is_digit ds ≡ true → AreDigits ds
-test_all [] h = tt
-test_all (d ∷ ds) h = let (a, b) = both (is_digit d) (list_all is_digit ds) h in (a, test_all ds b)
+-- ---- digits in front
 
--- digits end where the point or the text does
-prefix_ends : (ds decimals : List ℕ) → AreDigits ds → prefix_len is_digit (ds ++ decimals_text decimals) ≡ length ds
-prefix_ends [] [] h = refl
-prefix_ends [] (d ∷ ds) h = refl
-prefix_ends (x ∷ xs) decimals h = rw (h.0, one-add, prefix_ends xs decimals h.1) refl
+pub front_are : (text : List ℕ) → AreDigits (front_digits text)
+front_are text = front_passes is_digit text
 
--- ---- what is read is spelt so
-
--- a number with these parts has a text
-record Shaped (minus : Bool) (text : List ℕ) (n : PlainNumber) : Type 0 where
-  sign : n.minus ≡ minus
-  spelt : text ≡ n.whole ++ decimals_text n.decimals
-  digits : HasDigits n
-
-decimals_shaped : (minus : Bool) (whole bs : List ℕ) (n : PlainNumber) → AreDigits whole → (length whole == 0) ≡ false → are_decimals bs ≡ true
-    → record { minus = minus; whole = whole; decimals = bs } ≡ n → Shaped minus (whole ++ 46 ∷ bs) n
-decimals_shaped minus whole [] n h some d e = cc
-decimals_shaped minus whole (b ∷ bs) n h some d e =
-    let (all, sized) = both (list_all is_digit (b ∷ bs)) (nat_lt 0 (length (b ∷ bs)) && nat_le (length (b ∷ bs)) 12) d in
-    let (least, most) = both (nat_lt 0 (length (b ∷ bs))) (nat_le (length (b ∷ bs)) 12) sized in
-    let more : 0 < length whole = grind arith in
-    let twelve : length (b ∷ bs) ≤ 12 = grind arith in
-    subst (λ m. Shaped minus (whole ++ 46 ∷ b ∷ bs) m) e
-    (record { sign = refl; spelt = refl; digits = record { some = more; whole = h; decimals = test_all (b ∷ bs) all; twelve = twelve } })
-
-whole_shaped : (minus : Bool) (whole : List ℕ) (n : PlainNumber) (v : Bool) → (length whole == 0) ≡ v → AreDigits whole
-    → cond v None (Some (record { minus = minus; whole = whole; decimals = [] })) ≡ Some n → Shaped minus whole n
-whole_shaped minus whole n true e h k = cc
-whole_shaped minus whole n false e h k =
-    let same : record { minus = minus; whole = whole; decimals = [] } ≡ n = cc in
-    let more : 0 < length whole = grind arith in
-    let short : length {A = ℕ} [] ≤ 12 = omega arith in
-    subst (λ m. Shaped minus whole m) same
-    (record { sign = refl; spelt = sym (append-nil whole); digits = record { some = more; whole = h; decimals = tt; twelve = short } })
-
-behind_shaped : (minus : Bool) (whole rest : List ℕ) (n : PlainNumber) → AreDigits whole → behind_whole minus whole rest ≡ Some n → Shaped minus (whole ++ rest) n
-behind_shaped minus whole [] n h e = rw append-nil (whole_shaped minus whole n (length whole == 0) refl h e)
-behind_shaped minus whole (b ∷ bs) n h e =
-    let (tests, same) = passed (not (length whole == 0) && ((b == 46) && are_decimals bs)) (Some (record { minus = minus; whole = whole; decimals = bs })) n e in
-    let (some, rest) = both (not (length whole == 0)) ((b == 46) && are_decimals bs) tests in
-    let (is_point, decimals) = both (b == 46) (are_decimals bs) rest in
-    let point : b ≡ 46 = test_same b 46 is_point in
-    let not_empty : (length whole == 0) ≡ false = turned (length whole == 0) some in
-    let number : record { minus = minus; whole = whole; decimals = bs } ≡ n = cc in
-    rw point (decimals_shaped minus whole bs n h not_empty decimals number)
-
-sign_shaped : (minus : Bool) (text : List ℕ) (n : PlainNumber) → behind_sign minus text ≡ Some n → Shaped minus text n
-sign_shaped minus text n e =
-    let k = prefix_len is_digit text in
-    subst (λ t. Shaped minus t n) (take-append-drop k text) (behind_shaped minus (take k text) (drop k text) n (front_passes is_digit text) e)
-
-pub record IsSpelt (text : List ℕ) (n : PlainNumber) : Type 0 where
-  pub spelt : text ≡ plain_text n
-  pub digits : HasDigits n
-
-spelt_from : (minus : Bool) (text : List ℕ) (n : PlainNumber) → Shaped minus text n → IsSpelt (sign_text minus ++ text) n
-spelt_from minus text n h = record { spelt = rw (h.sign, ← h.spelt) refl; digits = h.digits }
-
-sign_case : (b : ℕ) (bs : List ℕ) (n : PlainNumber) (v : Bool) → (b == 45) ≡ v → cond v (behind_sign true bs) (behind_sign false (b ∷ bs)) ≡ Some n → IsSpelt (b ∷ bs) n
-sign_case b bs n true e h =
-    let minus : b ≡ 45 = test_same b 45 e in
-    rw minus (spelt_from true bs n (sign_shaped true bs n h))
-sign_case b bs n false e h = spelt_from false (b ∷ bs) n (sign_shaped false (b ∷ bs) n h)
-
-pub parts_spelt : (text : List ℕ) (n : PlainNumber) → parts_at text ≡ Some n → IsSpelt text n
-unfolding parts_at
-parts_spelt [] n h = cc
-parts_spelt (b ∷ bs) n h = sign_case b bs n (b == 45) refl h
+pub front_split : (text : List ℕ) → text ≡ front_digits text ++ behind_digits text
+front_split text = sym (take-append-drop (digit_count text) text)
 
 -- ---- what is spelt so is read
 
-shaped_behind : (minus : Bool) (whole decimals : List ℕ) → 0 < length whole → AreDigits decimals → length decimals ≤ 12
-    → behind_whole minus whole (decimals_text decimals) ≡ Some (record { minus = minus; whole = whole; decimals = decimals })
-shaped_behind minus whole [] some digits twelve =
-    let test : (length whole == 0) ≡ false = grind arith in
-    rw test refl
-shaped_behind minus whole (d ∷ ds) some digits twelve =
-    let test : (length whole == 0) ≡ false = grind arith in
-    let all : list_all is_digit (d ∷ ds) ≡ true = all_test (d ∷ ds) digits in
-    let least : nat_lt 0 (length (d ∷ ds)) ≡ true = grind arith in
-    let most : nat_le (length (d ∷ ds)) 12 ≡ true = grind arith in
-    rw (test, all, least, most) refl
+decimals_again : (ds rest : List ℕ) (stop : ℕ) → IsStop stop → 0 < length ds → AreDigits ds → length ds ≤ 12
+    → decimals_at (ds ++ stop ∷ rest) ≡ Some (number_of ds * 10 ^ (12 - length ds), stop ∷ rest)
+decimals_again ds rest stop s some digits twelve =
+    rw (front_again ds rest stop digits s.digit, behind_again ds rest stop digits s.digit, lt_test 0 (length ds) some, le_test (length ds) 12 twelve) refl
 
-shaped_sign : (minus : Bool) (whole decimals : List ℕ) → 0 < length whole → AreDigits whole → AreDigits decimals → length decimals ≤ 12
-    → behind_sign minus (whole ++ decimals_text decimals) ≡ Some (record { minus = minus; whole = whole; decimals = decimals })
-shaped_sign minus whole decimals some front behind twelve =
-    let k : prefix_len is_digit (whole ++ decimals_text decimals) ≡ length whole = prefix_ends whole decimals front in
-    let first : take (length whole) (whole ++ decimals_text decimals) ≡ whole = take-append_seam whole (decimals_text decimals) in
-    let second : drop (length whole) (whole ++ decimals_text decimals) ≡ decimals_text decimals = drop-append_seam whole (decimals_text decimals) in
-    rw (k, first, second) (shaped_behind minus whole decimals some behind twelve)
+fraction_again : (rule : DecimalPoint) (n : PlainNumber) (ds rest : List ℕ) (stop : ℕ) → IsStop stop → n.decimals ≡ ds → HasPoint rule n → AreDigits ds → length ds ≤ 12
+    → fraction_at rule (decimals_text ds ++ stop ∷ rest) ≡ Some (number_of ds * 10 ^ (12 - length ds), stop ∷ rest)
+fraction_again point.Optional n [] rest stop s e point digits twelve = rw (test_other stop 46 (λ e. s.point (sym e))) refl
+fraction_again point.Required n [] rest stop s e point digits twelve = absurd (omega (arith, point, ap (length {A = ℕ}) e))
+fraction_again rule n (d ∷ ds) rest stop s e point digits twelve = decimals_again (d ∷ ds) rest stop s (omega arith) digits twelve
+
+-- what stands behind the whole digits begins with no digit
+behind_whole : (ds rest : List ℕ) (stop : ℕ) → IsStop stop → (b : ℕ) × (bs : List ℕ) × (decimals_text ds ++ stop ∷ rest ≡ b ∷ bs) × (is_digit b ≡ false)
+behind_whole [] rest stop s = (stop, rest, refl, s.digit)
+behind_whole (d ∷ ds) rest stop s = (46, d ∷ ds ++ stop ∷ rest, refl, refl)
+
+whole_near : (n : PlainNumber) → magnitude n ≤ far → number_of n.whole ≤ 100000
+whole_near n h = omega (arith, h)
+
+magnitude_again : (rule : DecimalPoint) (n : PlainNumber) (rest : List ℕ) (stop : ℕ) → IsStop stop → HasDigits n → HasPoint rule n → magnitude n ≤ far
+    → magnitude_at rule (n.whole ++ (decimals_text n.decimals ++ stop ∷ rest)) ≡ Some (magnitude n, stop ∷ rest)
+unfolding magnitude_at
+magnitude_again rule n rest stop s h point near =
+    let (b, bs, e, free) = behind_whole n.decimals rest stop s in
+    let fraction : fraction_at rule (b ∷ bs) ≡ Some (number_of n.decimals * 10 ^ (12 - length n.decimals), stop ∷ rest) =
+    ap (fraction_at rule) (sym e) ∙ fraction_again rule n n.decimals rest stop s refl point h.decimals h.twelve in
+    rw (e, front_again n.whole bs b h.whole free, behind_again n.whole bs b h.whole free, lt_test 0 (length n.whole) h.some, le_test (number_of n.whole) 100000 (whole_near n near), fraction, le_test (magnitude n) far near) refl
 
 digit_no_minus : (b : ℕ) → IsTrue (is_digit b) → (b == 45) ≡ false
 digit_no_minus b h = grind arith
 
-again : (minus : Bool) (whole decimals : List ℕ) → 0 < length whole → AreDigits whole → AreDigits decimals → length decimals ≤ 12
-    → parts_at (sign_text minus ++ (whole ++ decimals_text decimals)) ≡ Some (record { minus = minus; whole = whole; decimals = decimals })
-unfolding parts_at
-again true whole decimals some front behind twelve = shaped_sign true whole decimals some front behind twelve
-again false [] decimals some front behind twelve = absurd (omega arith)
-again false (w ∷ ws) decimals some front behind twelve = rw (digit_no_minus w front.0) (shaped_sign false (w ∷ ws) decimals some front behind twelve)
+minus_again : (minus : Bool) (whole rest : List ℕ) → 0 < length whole → AreDigits whole → behind_minus (sign_text minus ++ (whole ++ rest)) ≡ (minus, whole ++ rest)
+minus_again true whole rest some h = refl
+minus_again false [] rest some h = absurd (omega arith)
+minus_again false (w ∷ ws) rest some h = rw (digit_no_minus w h.0) refl
 
-pub parts_again : (n : PlainNumber) → HasDigits n → parts_at (plain_text n) ≡ Some n
-parts_again n h = again n.minus n.whole n.decimals h.some h.whole h.decimals h.twelve
-
--- ---- the steps
-
-point_test : (rule : DecimalPoint) (n : PlainNumber) → HasPoint rule n → has_point rule n ≡ true
-point_test point.Optional n h = refl
-point_test point.Required n h = grind arith
-
-test_point : (rule : DecimalPoint) (n : PlainNumber) → has_point rule n ≡ true → HasPoint rule n
-test_point point.Optional n h = tt
-test_point point.Required n h = grind arith
-
-pub plain_again : (rule : DecimalPoint) (text : List ℕ) (steps : ℤ) → IsPlain rule text steps → plain_at rule text ≡ Some steps
+pub plain_again : (rule : DecimalPoint) (text rest : List ℕ) (stop : ℕ) (steps : ℤ) → IsStop stop → IsPlain rule text steps → plain_at rule (text ++ stop ∷ rest) ≡ Some (steps, stop ∷ rest)
 unfolding plain_at
-plain_again rule text steps h =
+plain_again rule text rest stop steps s h =
     let n = h.number in
-    let near : nat_le (magnitude n) far ≡ true = le_test (magnitude n) far h.near in
-    rw (h.spelt, parts_again n h.digits, point_test rule n h.point, near, h.value) refl
+    let tail = decimals_text n.decimals ++ stop ∷ rest in
+    let whole : text ++ stop ∷ rest ≡ sign_text n.minus ++ (n.whole ++ tail) =
+    ap (λ t. t ++ stop ∷ rest) h.spelt ∙ append_assoc (sign_text n.minus) (n.whole ++ decimals_text n.decimals) (stop ∷ rest) ∙ ap (λ t. sign_text n.minus ++ t) (append_assoc n.whole (decimals_text n.decimals) (stop ∷ rest)) in
+    rw (whole, minus_again n.minus n.whole tail h.digits.some h.digits.whole, magnitude_again rule n rest stop s h.digits h.point h.near, h.value) refl
 
-pub plain_takes : (rule : DecimalPoint) (text : List ℕ) (steps : ℤ) → plain_at rule text ≡ Some steps → IsPlain rule text steps
+-- ---- what is read is spelt so
+
+-- these decimals are read from a text
+record Decimals (text : List ℕ) (steps : ℕ) (rest ds : List ℕ) : Type 0 where
+  digits : AreDigits ds
+  twelve : length ds ≤ 12
+  value : steps ≡ number_of ds * 10 ^ (12 - length ds)
+  spelt : text ≡ decimals_text ds ++ rest
+
+decimals_spelt : (ds rest : List ℕ) → 0 < length ds → 46 ∷ (ds ++ rest) ≡ decimals_text ds ++ rest
+decimals_spelt [] rest some = absurd (omega arith)
+decimals_spelt (d ∷ ds) rest some = refl
+
+decimals_takes : (text rest : List ℕ) (steps : ℕ) → decimals_at text ≡ Some (steps, rest) → (ds : List ℕ) × (0 < length ds) × Decimals (46 ∷ text) steps rest ds
+decimals_takes text rest steps h =
+    let ds = front_digits text in
+    let (step, e, g) = both_gave (step_of (length ds)) (λ step. Some (number_of ds * step, behind_digits text)) (steps, rest) h in
+    let (tests, is) = passed (nat_lt 0 (length ds) && nat_le (length ds) 12) (Some (10 ^ (12 - length ds))) step e in
+    let (some, twelve) = both (nat_lt 0 (length ds)) (nat_le (length ds) 12) tests in
+    let (value, behind) = same_pair (number_of ds * step) steps (behind_digits text) rest g in
+    let same : 10 ^ (12 - length ds) ≡ step = cc in
+    let more = test_lt 0 (length ds) some in (
+      ds,
+      more,
+      record {
+        digits = front_are text;
+        twelve = test_le (length ds) 12 twelve;
+        value = sym value ∙ ap (λ k. number_of ds * k) (sym same);
+        spelt = ap (λ t. 46 ∷ t) (front_split text ∙ ap (λ r. ds ++ r) behind) ∙ decimals_spelt ds rest more;
+      },
+    )
+
+without_takes : (rule : DecimalPoint) (minus : Bool) (whole text rest : List ℕ) (steps : ℕ) → without_point rule text ≡ Some (steps, rest)
+    → (ds : List ℕ) × HasPoint rule (record { minus = minus; whole = whole; decimals = ds }) × Decimals text steps rest ds
+without_takes point.Optional minus whole text rest steps h =
+    let (value, behind) = same_pair 0 steps text rest h in
+    ([], tt, record { digits = tt; twelve = omega arith; value = sym value; spelt = behind })
+without_takes point.Required minus whole text rest steps h = cc
+
+point_has : (rule : DecimalPoint) (n : PlainNumber) → 0 < length n.decimals → HasPoint rule n
+point_has point.Optional n h = tt
+point_has point.Required n h = h
+
+fraction_case : (rule : DecimalPoint) (minus : Bool) (whole : List ℕ) (b : ℕ) (bs rest : List ℕ) (steps : ℕ) (v : Bool) → (b == 46) ≡ v
+    → cond v (decimals_at bs) (without_point rule (b ∷ bs)) ≡ Some (steps, rest) → (ds : List ℕ) × HasPoint rule (record { minus = minus; whole = whole; decimals = ds }) × Decimals (b ∷ bs) steps rest ds
+fraction_case rule minus whole b bs rest steps true e h =
+    let (ds, some, d) = decimals_takes bs rest steps h in
+    let same : b ≡ 46 = test_same b 46 e in
+    (ds, point_has rule (record { minus = minus; whole = whole; decimals = ds }) some, subst (λ (k : ℕ). Decimals (k ∷ bs) steps rest ds) (sym same) d)
+fraction_case rule minus whole b bs rest steps false e h = without_takes rule minus whole (b ∷ bs) rest steps h
+
+fraction_takes : (rule : DecimalPoint) (minus : Bool) (whole text rest : List ℕ) (steps : ℕ) → fraction_at rule text ≡ Some (steps, rest)
+    → (ds : List ℕ) × HasPoint rule (record { minus = minus; whole = whole; decimals = ds }) × Decimals text steps rest ds
+fraction_takes rule minus whole [] rest steps h = without_takes rule minus whole [] rest steps h
+fraction_takes rule minus whole (b ∷ bs) rest steps h = fraction_case rule minus whole b bs rest steps (b == 46) refl h
+
+-- this number is read from a text without a sign
+record Unsigned (rule : DecimalPoint) (minus : Bool) (text : List ℕ) (steps : ℕ) (rest : List ℕ) (n : PlainNumber) : Type 0 where
+  sign : n.minus ≡ minus
+  digits : HasDigits n
+  spelt : text ≡ (n.whole ++ decimals_text n.decimals) ++ rest
+  value : steps ≡ magnitude n
+  near : magnitude n ≤ far
+  point : HasPoint rule n
+
+magnitude_takes : (rule : DecimalPoint) (minus : Bool) (text rest : List ℕ) (steps : ℕ) → magnitude_at rule text ≡ Some (steps, rest) → (n : PlainNumber) × Unsigned rule minus text steps rest n
+unfolding magnitude_at
+magnitude_takes rule minus text rest steps h =
+    let ws = front_digits text in
+    let (front, h1) = passed (nat_lt 0 (length ws) && nat_le (number_of ws) 100000)
+    (fraction_at rule (behind_digits text) >>= λ found. cond (nat_le (number_of ws * 10 ^ 12 + found.0) far) (Some (number_of ws * 10 ^ 12 + found.0, found.1)) None) (steps, rest) h in
+    let (some, _) = both (nat_lt 0 (length ws)) (nat_le (number_of ws) 100000) front in
+    let (found, f, h2) = both_gave (fraction_at rule (behind_digits text)) (λ found. cond (nat_le (number_of ws * 10 ^ 12 + found.0) far) (Some (number_of ws * 10 ^ 12 + found.0, found.1)) None) (steps, rest) h1 in
+    let (near, is) = passed (nat_le (number_of ws * 10 ^ 12 + found.0) far) (Some (number_of ws * 10 ^ 12 + found.0, found.1)) (steps, rest) h2 in
+    let (value, behind) = same_pair (number_of ws * 10 ^ 12 + found.0) steps found.1 rest is in
+    let (ds, point, d) = fraction_takes rule minus ws (behind_digits text) found.1 found.0 f in
+    let sum : number_of ws * 10 ^ 12 + found.0 ≡ number_of ws * 10 ^ 12 + number_of ds * 10 ^ (12 - length ds) = ap (λ k. number_of ws * 10 ^ 12 + k) d.value in (
+      record { minus = minus; whole = ws; decimals = ds },
+      record {
+        sign = refl;
+        digits = record { some = test_lt 0 (length ws) some; whole = front_are text; decimals = d.digits; twelve = d.twelve };
+        spelt = front_split text ∙ ap (λ t. ws ++ t) (d.spelt ∙ ap (λ r. decimals_text ds ++ r) behind) ∙ sym (append_assoc ws (decimals_text ds) rest);
+        value = sym value ∙ sum;
+        near = subst (λ (m : ℕ). m ≤ far) sum (test_le (number_of ws * 10 ^ 12 + found.0) far near);
+        point = point;
+      },
+    )
+
+minus_split : (text : List ℕ) → text ≡ sign_text (behind_minus text).0 ++ (behind_minus text).1
+minus_split [] = refl
+minus_split (b ∷ bs) = go (b == 45) refl where
+  go : (v : Bool) → (b == 45) ≡ v → b ∷ bs ≡ sign_text (cond {A = Bool × List ℕ} v (true, bs) (false, b ∷ bs)).0 ++ (cond {A = Bool × List ℕ} v (true, bs) (false, b ∷ bs)).1
+  go true e = ap (λ k. k ∷ bs) (test_same b 45 e)
+  go false e = refl
+
+pub plain_takes : (rule : DecimalPoint) (bytes rest : List ℕ) (steps : ℤ) → plain_at rule bytes ≡ Some (steps, rest) → (text : List ℕ) × IsPlain rule text steps × (bytes ≡ text ++ rest)
 unfolding plain_at
-plain_takes rule text steps e =
-    let (n, read, rest) = both_gave (parts_at text) (λ n. cond (has_point rule n && nat_le (magnitude n) far) (Some (signed n.minus (magnitude n))) None) steps e in
-    let (tests, value) = passed (has_point rule n && nat_le (magnitude n) far) (Some (signed n.minus (magnitude n))) steps rest in
-    let (point, near) = both (has_point rule n) (nat_le (magnitude n) far) tests in
-    let spelt = parts_spelt text n read in
-    let same : signed n.minus (magnitude n) ≡ steps = cc in
-    record { number = n; digits = spelt.digits; spelt = spelt.spelt; value = sym same; near = test_le (magnitude n) far near; point = test_point rule n point }
+plain_takes rule bytes rest steps h =
+    let minus = (behind_minus bytes).0 in
+    let (found, f, g) = both_gave (magnitude_at rule (behind_minus bytes).1) (λ found. Some (signed minus found.0, found.1)) (steps, rest) h in
+    let (value, behind) = same_pair (signed minus found.0) steps found.1 rest g in
+    let (n, u) = magnitude_takes rule minus (behind_minus bytes).1 found.1 found.0 f in
+    let text = n.whole ++ decimals_text n.decimals in
+    let sign : sign_text minus ≡ sign_text n.minus = ap sign_text (sym u.sign) in (
+      plain_text n,
+      record { number = n; digits = u.digits; spelt = refl; value = sym value ∙ ap (λ m. signed minus m) u.value ∙ ap (λ s. signed s (magnitude n)) (sym u.sign); near = u.near; point = u.point },
+      minus_split bytes ∙ ap (λ t. sign_text minus ++ t) (u.spelt ∙ ap (λ r. text ++ r) behind) ∙ ap (λ t. t ++ (text ++ rest)) sign ∙ sym (append_assoc (sign_text n.minus) text rest),
+    )

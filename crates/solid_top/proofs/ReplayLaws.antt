@@ -1,5 +1,5 @@
 -- A replay has one answer.
-use Rattle.std.proofs.Common.{◌≡◌, ◌⊎◌, inl, inr, ℕ, ◌+◌, ◌≤◌, List, [], ◌∷◌, ◌++◌, length, drop, codes, decimal, Result, Ok, Err, IfOk, ap, sym, subst, refl, ◌∙◌, arith, append-nil, append_assoc, length-append, min}
+use Rattle.std.proofs.Common.{◌≡◌, ◌⊎◌, inl, inr, ℕ, ◌+◌, ◌≤◌, List, [], ◌∷◌, ◌++◌, length, drop, codes, decimal, Result, Ok, Err, IfOk, ap, sym, subst, refl, ◌∙◌, arith, append-nil, append_assoc, length-append}
 use Rattle.std.proofs.lemmas.Fmt.{decimal_digit}
 use Rattle.std.specs.declared.alloc.AllocError.{AllocError}
 use Rattle.solid_base.specs.declared.entities.Model.{Model}
@@ -14,16 +14,17 @@ use Rattle.solid_top.specs.declared.questions.PointQuestion.{PointQuestion}
 use Rattle.solid_top.specs.declared.replay.Output.{Output}
 use Rattle.solid_top.specs.declared.statuses.Status.{Status}
 use Rattle.solid_top.specs.declared.statuses.Status.TheVariants as status
-use Rattle.solid_top.specs.Answers.{replay_text, evaluations}
+use Rattle.solid_top.specs.Answers.{AreAnswers, replay_text, most_evaluations}
 use Rattle.solid_top.specs.FormReading.{point_at}
-use Rattle.solid_top.specs.Ledgers.{Counts, most_count}
-use Rattle.solid_top.specs.Models.{AreBuilt, Asks, IsReplay, IsNotBuilt}
+use Rattle.solid_eval.specs.Ticks.{RisesUpTo, most_count}
+use Rattle.solid_top.specs.Models.{Asks, IsReplay, IsNotBuilt}
 use Rattle.solid_top.specs.Output.{session_text, output_text}
 use Rattle.solid_top.specs.Points.{IsPointLine}
 use Rattle.solid_top.specs.Replay.{IsReplayed}
 use Rattle.solid_top.specs.TopFaults.{refused_text}
 use Rattle.solid_top.proofs.AnswerLaws.{nothing_read}
-use Rattle.solid_top.proofs.Deciding.{AsksFrom, built_or_not, asks_or_not}
+use Rattle.solid_top.proofs.Deciding.{AsksFrom, asks_or_not}
+use Rattle.solid_top.proofs.OneAnswer.{answers_once, answers_some}
 use Rattle.solid_top.proofs.PointLaws.{point_reader}
 
 -- the text of a run without commits in which session 1 alone has lines, by its parts
@@ -50,12 +51,12 @@ replay_once bytes model other questions asked h k =
 replay_not_wrong : (bytes : List ℕ) (model : Model) (questions : List PointQuestion) → IsReplay bytes model questions → IsNotBuilt bytes → ⊥
 replay_not_wrong bytes model questions h w =
     let (same, end) = reads_once bytes model w.model h.end w.end h.reads w.reads in
-    w.wrong (subst (λ (m : Model). AreBuilt m.rows) same h.built) questions (subst (λ (n : ℕ). Asks bytes n questions) end h.lines)
+    w.wrong questions (subst (λ (n : ℕ). Asks bytes n questions) end h.lines)
 
 -- a replay that is answered is not refused
 done_not_refused : (bytes text other : List ℕ) → IsReplayed bytes status.Done text → IsReplayed bytes status.Refused other → ⊥
-done_not_refused bytes text other (model, questions, h, t) (inl (f, refused, e)) = never_both bytes model h.end f h.reads refused
-done_not_refused bytes text other (model, questions, h, t) (inr (w, e)) = replay_not_wrong bytes model questions h w
+done_not_refused bytes text other (model, questions, answers, h, a, t) (inl (f, refused, e)) = never_both bytes model h.end f h.reads refused
+done_not_refused bytes text other (model, questions, answers, h, a, t) (inr (w, e)) = replay_not_wrong bytes model questions h w
 
 refused_once : (bytes text other : List ℕ) → IsReplayed bytes status.Refused text → IsReplayed bytes status.Refused other → text ≡ other
 refused_once bytes text other (inl (f, refused, e)) (inl (g, refused', e')) = e ∙ ap (λ (k : FileFault). refused_text (fault.File k)) (first_fault bytes f g refused refused') ∙ sym e'
@@ -64,9 +65,10 @@ refused_once bytes text other (inr (w, e)) (inl (f, refused, e')) = absurd (neve
 refused_once bytes text other (inr (w, e)) (inr (w', e')) = e ∙ sym e'
 
 done_once : (bytes text other : List ℕ) → IsReplayed bytes status.Done text → IsReplayed bytes status.Done other → text ≡ other
-done_once bytes text other (model, questions, h, t) (model', questions', h', t') =
+done_once bytes text other (model, questions, answers, h, a, t) (model', questions', answers', h', a', t') =
     let (same, lines) = replay_once bytes model model' questions questions' h h' in
-    t ∙ ap (λ (m : Model). replay_text m.rows questions) same ∙ ap (λ (q : List PointQuestion). replay_text model'.rows q) lines ∙ sym t'
+    let moved : AreAnswers model'.rows questions' answers = subst (λ (q : List PointQuestion). AreAnswers model'.rows q answers) lines (subst (λ (m : Model). AreAnswers m.rows questions answers) same a) in
+    t ∙ ap (λ (all : List (List ℕ)). replay_text all) (answers_once model'.rows questions' answers answers' moved a') ∙ sym t'
 
 -- a replay of bytes answers one status and one text
 pub replayed_once : (bytes : List ℕ) (s t : Status) (a b : List ℕ) → IsReplayed bytes s a → IsReplayed bytes t b → (s ≡ t) × (a ≡ b)
@@ -91,17 +93,15 @@ replayed_once bytes status.WriteFault t a b h k = absurd h
 replayed_once bytes status.TooLong t a b h k = absurd h
 
 -- what a replay answers to a file
-file_replayed : (bytes : List ℕ) (model : Model) (end : ℕ) → Reads bytes model end → AreBuilt model.rows ⊎ (AreBuilt model.rows → ⊥) → AsksFrom 0 (drop end bytes) ⊎ (AsksFrom 0 (drop end bytes) → ⊥)
-    → (s : Status) × (text : List ℕ) × IsReplayed bytes s text
-file_replayed bytes model end reads (inl built) (inl (questions, lines)) =
-    (status.Done, replay_text model.rows questions, (model, questions, record { end = end; reads = reads; built = built; lines = lines }, refl))
-file_replayed bytes model end reads (inl built) (inr never) =
-    (status.Refused, refused_text fault.NotBuilt, inr (record { model = model; end = end; reads = reads; wrong = λ b questions lines. never (questions, lines) }, refl))
-file_replayed bytes model end reads (inr never) asks =
-    (status.Refused, refused_text fault.NotBuilt, inr (record { model = model; end = end; reads = reads; wrong = λ b questions lines. never b }, refl))
+file_replayed : (bytes : List ℕ) (model : Model) (end : ℕ) → Reads bytes model end → AsksFrom 0 (drop end bytes) ⊎ (AsksFrom 0 (drop end bytes) → ⊥) → (s : Status) × (text : List ℕ) × IsReplayed bytes s text
+file_replayed bytes model end reads (inl (questions, lines)) =
+    let (answers, are) = answers_some model.rows questions in
+    (status.Done, replay_text answers, (model, questions, answers, record { end = end; reads = reads; lines = lines }, are, refl))
+file_replayed bytes model end reads (inr never) =
+    (status.Refused, refused_text fault.NotBuilt, inr (record { model = model; end = end; reads = reads; wrong = λ questions lines. never (questions, lines) }, refl))
 
 bytes_replayed : (bytes : List ℕ) → ((model : Model) × (end : ℕ) × Reads bytes model end) ⊎ ((f : FileFault) × Refused bytes f) → (s : Status) × (text : List ℕ) × IsReplayed bytes s text
-bytes_replayed bytes (inl (model, end, reads)) = file_replayed bytes model end reads (built_or_not model.rows) (asks_or_not (drop end bytes))
+bytes_replayed bytes (inl (model, end, reads)) = file_replayed bytes model end reads (asks_or_not (drop end bytes))
 bytes_replayed bytes (inr (f, refused)) = (status.Refused, refused_text (fault.File f), inl (f, refused, refl))
 
 -- a replay of any bytes answers something
@@ -117,13 +117,16 @@ replayed_only (Err e) bytes s text h k = tt
 
 -- how often primitives were evaluated
 pub replayed_ticks : (r : Result Output AllocError) (bytes : List ℕ) (old new : ℕ) (model : Model) (questions : List PointQuestion) → IfOk r (λ out. IsReplayed bytes out.status out.text)
-    → IfOk r (λ out. out.status ≡ status.Done → (model : Model) × (questions : List PointQuestion) × IsReplay bytes model questions × Counts old new (evaluations model.rows questions))
-    → IsReplay bytes model questions → old ≤ most_count → IfOk r (λ out. new ≡ min (old + evaluations model.rows questions) most_count)
+    → IfOk r (λ out. out.status ≡ status.Done → (model : Model) × (questions : List PointQuestion) × IsReplay bytes model questions × RisesUpTo old new (most_evaluations model.rows questions))
+    → IsReplay bytes model questions → old ≤ most_count → IfOk r (λ out. new ≤ old + most_evaluations model.rows questions)
 replayed_ticks (Ok out) bytes old new model questions h counted is least =
-    let (done, text) = replayed_once bytes out.status status.Done out.text (replay_text model.rows questions) h (model, questions, is, refl) in
+    let (answers, are) = answers_some model.rows questions in
+    let (done, text) = replayed_once bytes out.status status.Done out.text (replay_text answers) h (model, questions, answers, is, are, refl) in
     let (model', questions', is', ticks) = counted done in
     let (same, lines) = replay_once bytes model' model questions' questions is' is in
-    ticks least ∙ ap (λ (m : Model). min (old + evaluations m.rows questions') most_count) same ∙ ap (λ (q : List PointQuestion). min (old + evaluations model.rows q) most_count) lines
+    let most : most_evaluations model'.rows questions' ≡ most_evaluations model.rows questions = ap (λ (m : Model). most_evaluations m.rows questions') same ∙ ap (λ (q : List PointQuestion). most_evaluations model.rows q) lines in
+    let (first, second, third) = ticks least in
+    omega (arith, third, most)
 replayed_ticks (Err e) bytes old new model questions h counted is least = tt
 
 -- the bytes are refused as a file
@@ -132,8 +135,8 @@ pub file_refused : (r : Result Output AllocError) (bytes : List ℕ) (f : FileFa
 file_refused (Ok out) bytes f h s t = subst (λ (v : Status). IsReplayed bytes v out.text) (sym s) (inl (f, h, t))
 file_refused (Err e) bytes f h s t = tt
 
--- a row isn't answered, or a line asks no question
-pub not_built : (r : Result Output AllocError) (bytes : List ℕ) (model : Model) (end : ℕ) → Reads bytes model end → (AreBuilt model.rows → (questions : List PointQuestion) → Asks bytes end questions → ⊥)
+-- a line behind the file asks no question
+pub not_built : (r : Result Output AllocError) (bytes : List ℕ) (model : Model) (end : ℕ) → Reads bytes model end → ((questions : List PointQuestion) → Asks bytes end questions → ⊥)
     → IfOk r (λ out. out.status ≡ status.Refused) → IfOk r (λ out. out.text ≡ refused_text fault.NotBuilt) → IfOk r (λ out. IsReplayed bytes out.status out.text)
 not_built (Ok out) bytes model end reads wrong s t =
     subst (λ (v : Status). IsReplayed bytes v out.text) (sym s) (inr (record { model = model; end = end; reads = reads; wrong = wrong }, t))

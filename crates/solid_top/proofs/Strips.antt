@@ -1,13 +1,16 @@
--- Laws of `strip` and `cut`.
-use Rattle.std.proofs.Common.{◌≡◌, ◌≢◌, ℕ, suc, ◌+◌, ◌<◌, List, [], ◌∷◌, ◌++◌, Bool, true, false, cond, ◌&&◌, nat_eq, ◌==◌, length, take, drop, slice_index, Option, None, Some, All, refl, sym, ap, ◌∙◌, add-one}
+-- Laws of `strip`, and of the digits in front of a text.
+use Rattle.std.proofs.Common.{◌≡◌, ℕ, suc, ◌+◌, ◌*◌, ◌-◌, ◌^◌, ◌<◌, ◌≤◌, List, [], ◌∷◌, ◌++◌, true, false, cond, ◌&&◌, nat_eq, ◌==◌, length, take, drop, slice_index, None, Some, refl, sym, ap, subst, ◌∙◌, arith, one-add, append-nil, append_assoc, mul-le-mul}
 use Rattle.std.specs.Cmp.Lexicographic.{pointwise}
-use Rattle.std.specs.List.{AllByRecursion}
-use Rattle.std.proofs.lemmas.List.Elements.{recursion_from_All}
+use Rattle.std.specs.List.{prefix_len}
 use Rattle.std.proofs.lemmas.List.{take-append-drop}
 use Rattle.std.proofs.Math.Seq.{drop-cons}
-use Rattle.solid_base.proofs.Pairs.{same_pair}
-use Rattle.solid_top.proofs.StepLaws.{same_test, test_same, test_other, passed}
-use Rattle.solid_top.specs.Reading.{◌>>=◌, strip, cut}
+use Rattle.solid_base.specs.Digits.{is_digit, AreDigits, number_of}
+use Rattle.solid_base.specs.Spelling.{behind_digits}
+use Rattle.solid_base.proofs.Digits.{number_of-append, ten_positive}
+use Rattle.solid_base.proofs.Prefix.{front_upto, rest_upto}
+use Rattle.solid_top.proofs.StepLaws.{same_test, test_same, passed}
+use Rattle.solid_top.specs.PlainReading.{front_digits}
+use Rattle.solid_top.specs.Reading.{strip}
 
 -- stripping by a test of the front
 pub strip-tests : (text bytes : List ℕ) → strip text bytes ≡ cond (pointwise nat_eq text (take (length text) bytes)) (Some (drop (length text) bytes)) None
@@ -34,45 +37,63 @@ strip_takes (t ∷ ts) (b ∷ bs) rest h =
     let more : bs ≡ ts ++ rest = strip_takes ts bs rest k in
     cc
 
--- bytes before the first stop
-pub cut_again : (stop : ℕ) (text rest : List ℕ) → AllByRecursion (λ b. b ≢ stop) text → cut stop (text ++ stop ∷ rest) ≡ Some (text, rest)
-unfolding cut
-cut_again stop [] rest h = ap (λ v. cond v (Some ([], rest)) (cut stop rest >>= λ found. Some (stop ∷ found.0, found.1))) (same_test stop)
-cut_again stop (b ∷ bs) rest h =
-    rw (test_other b stop h.0, cut_again stop bs rest h.1) refl
+-- ---- digits in front
 
-pub cut_none : (stop : ℕ) (bytes : List ℕ) → AllByRecursion (λ b. b ≢ stop) bytes → cut stop bytes ≡ None
-unfolding cut
-cut_none stop [] h = refl
-cut_none stop (b ∷ bs) h = rw (test_other b stop h.0, cut_none stop bs h.1) refl
+no_prefix : (b : ℕ) (bs : List ℕ) → is_digit b ≡ false → prefix_len is_digit (b ∷ bs) ≡ 0
+no_prefix b bs h = rw h refl
 
--- what a byte in front of a cut gives
-pushed : (b : ℕ) (o : Option (List ℕ × List ℕ)) (a rest : List ℕ) → ◌>>=◌ {B = List ℕ × List ℕ} o (λ found. Some (b ∷ found.0, found.1)) ≡ Some (a, rest)
-    → (x : List ℕ) × (a ≡ b ∷ x) × (o ≡ Some (x, rest))
-pushed b None a rest h = cc
-pushed b (Some (x, y)) a rest h =
-    let (front, behind) = same_pair (b ∷ x) a y rest h in
-    (x, sym front, rw behind refl)
+-- digits up to a byte that is none
+pub front_again : (ds rest : List ℕ) (stop : ℕ) → AreDigits ds → is_digit stop ≡ false → front_digits (ds ++ stop ∷ rest) ≡ ds
+front_again ds rest stop h s = front_upto is_digit ds (stop ∷ rest) h (no_prefix stop rest s)
 
-cut_case : (stop b : ℕ) (bs a rest : List ℕ) (v : Bool) → (b == stop) ≡ v → cond {A = Option (List ℕ × List ℕ)} v (Some ([], bs)) (cut stop bs >>= λ found. Some (b ∷ found.0, found.1)) ≡ Some (a, rest)
-    → ((x y : List ℕ) → cut stop bs ≡ Some (x, y) → bs ≡ x ++ stop ∷ y) → b ∷ bs ≡ a ++ stop ∷ rest
-cut_case stop b bs a rest true e h more =
-    let same : b ≡ stop = test_same b stop e in
-    let (front, behind) = same_pair [] a bs rest h in
-    rw (← front, same, behind) refl
-cut_case stop b bs a rest false e h more =
-    let (x, front, f) = pushed b (cut stop bs) a rest h in
-    rw front (ap (λ l. b ∷ l) (more x rest f))
+pub behind_again : (ds rest : List ℕ) (stop : ℕ) → AreDigits ds → is_digit stop ≡ false → behind_digits (ds ++ stop ∷ rest) ≡ stop ∷ rest
+behind_again ds rest stop h s = rest_upto is_digit ds (stop ∷ rest) h (no_prefix stop rest s)
 
--- what is cut stands in front of the stop
-pub cut_takes : (stop : ℕ) (bytes a rest : List ℕ) → cut stop bytes ≡ Some (a, rest) → bytes ≡ a ++ stop ∷ rest
-unfolding cut
-cut_takes stop [] a rest h = cc
-cut_takes stop (b ∷ bs) a rest h = cut_case stop b bs a rest (b == stop) refl h (λ x y e. cut_takes stop bs x y e)
+-- digits alone
+pub front_all : (ds : List ℕ) → AreDigits ds → (front_digits ds ≡ ds) × (behind_digits ds ≡ [])
+front_all ds h =
+    let e = append-nil ds in (
+      subst (λ (t : List ℕ). front_digits t ≡ ds) e (front_upto is_digit ds [] h refl),
+      subst (λ (t : List ℕ). behind_digits t ≡ []) e (rest_upto is_digit ds [] h refl),
+    )
 
--- a stop at a place, and none before it
-pub cut_at : (stop : ℕ) (bytes : List ℕ) (n : ℕ) → n < length bytes → slice_index bytes n ≡ stop → All (λ b. b ≢ stop) (take n bytes) → cut stop bytes ≡ Some (take n bytes, drop (n + 1) bytes)
-cut_at stop bytes n within is before =
-    let behind : drop n bytes ≡ stop ∷ drop (n + 1) bytes = rw add-one (drop-cons bytes n 0 within ∙ ap (λ b. b ∷ drop (suc n) bytes) is) in
-    let whole : bytes ≡ take n bytes ++ stop ∷ drop (n + 1) bytes = sym (take-append-drop n bytes) ∙ ap (λ l. take n bytes ++ l) behind in
-    ap (cut stop) whole ∙ cut_again stop (take n bytes) (drop (n + 1) bytes) (recursion_from_All (λ b. b ≢ stop) (take n bytes) before)
+-- a list in front of a place, at it and behind it
+split_at : (bytes : List ℕ) (n : ℕ) → n < length bytes → bytes ≡ take n bytes ++ slice_index bytes n ∷ drop (suc n) bytes
+split_at bytes n within = sym (take-append-drop n bytes) ∙ ap (λ l. take n bytes ++ l) (drop-cons bytes n 0 within)
+
+-- digits before a place, and none at it
+pub front_ends : (bytes : List ℕ) (n : ℕ) → n < length bytes → AreDigits (take n bytes) → is_digit (slice_index bytes n) ≡ false → (front_digits bytes ≡ take n bytes) × (behind_digits bytes ≡ drop n bytes)
+front_ends bytes n within h stop =
+    let e = split_at bytes n within in
+    let b = slice_index bytes n in
+    let more = drop (suc n) bytes in (
+      ap front_digits e ∙ front_again (take n bytes) more b h stop,
+      ap behind_digits e ∙ behind_again (take n bytes) more b h stop ∙ sym (drop-cons bytes n 0 within),
+    )
+
+front_append : (xs ys : List ℕ) → AreDigits xs → front_digits (xs ++ ys) ≡ xs ++ front_digits ys
+front_append [] ys h = refl
+front_append (x ∷ xs) ys h = rw (h.0, one-add) (ap (λ t. x ∷ t) (front_append xs ys h.1))
+
+-- more digits spell no less
+number_grows : (xs ys : List ℕ) → number_of xs ≤ number_of (xs ++ ys)
+number_grows xs ys =
+    let m : number_of xs * 1 ≤ number_of xs * 10 ^ length ys = mul-le-mul (omega arith) (ten_positive (length ys)) in
+    rw (number_of-append xs ys) (omega (arith, m))
+
+next_number : (xs : List ℕ) (b : ℕ) → number_of (xs ++ b ∷ []) ≡ number_of xs * 10 + (b - 48)
+next_number xs b = number_of-append xs (b ∷ []) ∙ omega arith
+
+-- digits up to a place and at it spell no more than all digits in front
+pub front_past : (bytes : List ℕ) (n number most : ℕ) → n < length bytes → AreDigits (take n bytes) → is_digit (slice_index bytes n) ≡ true → number ≡ number_of (take n bytes)
+    → most ≤ number * 10 + (slice_index bytes n - 48) → most ≤ number_of (front_digits bytes)
+front_past bytes n number most within h digit same past =
+    let b = slice_index bytes n in
+    let xs = take n bytes in
+    let more = drop (suc n) bytes in
+    let one : front_digits (b ∷ more) ≡ b ∷ front_digits more = front_append (b ∷ []) more (digit, tt) in
+    let front : front_digits bytes ≡ (xs ++ b ∷ []) ++ front_digits more =
+    ap front_digits (split_at bytes n within) ∙ front_append xs (b ∷ more) h ∙ ap (λ t. xs ++ t) one ∙ sym (append_assoc xs (b ∷ []) (front_digits more)) in
+    let value : number_of (xs ++ b ∷ []) ≡ number * 10 + (b - 48) = next_number xs b ∙ ap (λ k. k * 10 + (b - 48)) (sym same) in
+    let grows = number_grows (xs ++ b ∷ []) (front_digits more) in
+    rw front (omega (arith, value, grows, past))

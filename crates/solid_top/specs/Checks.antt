@@ -1,5 +1,8 @@
 -- solidd's own: what a check of bytes answers.
-use Rattle.std.specs.Prelude.{◌≡◌, ℕ, ◌+◌, ◌-◌, List, [], ◌∷◌, ◌++◌, codes, decimal, length, slice_get, Option, None, Some}
+use Rattle.std.specs.Prelude.{◌≡◌, ℕ, ◌+◌, ◌-◌, ◌*◌, ◌==◌, ◌&&◌, Bool, true, false, not, List, [], ◌∷◌, ◌++◌, codes, decimal, length, slice_get, Option, None, Some, if◌then◌else◌}
+use Rattle.std.specs.List.{list_any}
+use Rattle.solid_base.specs.References.{references}
+use Rattle.solid_base.specs.Graph.{depth_of, weight_of}
 use Rattle.solid_base.specs.declared.entities.Entity.{Entity}
 use Rattle.solid_base.specs.declared.entities.Model.{Model}
 use Rattle.solid_base.specs.declared.entities.Token.{Token}
@@ -59,9 +62,45 @@ rows_line rows = codes "MODEL " ++ (decimal (length rows) ++ (codes " READ " ++ 
 abbrev pub globals_line : Model → List ℕ
 globals_line model = codes "SCALE " ++ (global_words model 13 ++ (codes " UNITS " ++ (global_words model 14 ++ (codes " VERSION " ++ (global_words model 23 ++ codes "\n")))))
 
+-- the entity names this number
+abbrev pub names : ℕ → Entity → Bool
+names number entity = list_any (λ named. named == number) (references entity.row)
+
+-- some entity names this number
+abbrev pub is_named : List Entity → ℕ → Bool
+is_named rows number = list_any (names number) rows
+
+-- a solid: a primitive, a Boolean tree, an assembly or an instance
+abbrev pub is_solid : Row → Bool
+is_solid row.Null = false
+is_solid (row.Opaque kind form matrix text) = false
+is_solid (row.Matrix form affine next) = false
+is_solid (row.Prim p matrix) = true
+is_solid (row.Tree items matrix) = true
+is_solid (row.Assembly items matrix) = true
+is_solid (row.Instance child matrix) = true
+
+-- the number, the weight and the depth of a solid
+abbrev pub root_line : List Entity → ℕ → List ℕ
+root_line rows number =
+    codes "ROOT " ++ (decimal number ++ (codes " " ++ (decimal (weight_of rows number) ++ (codes " " ++ (decimal (depth_of rows number) ++ codes "\n")))))
+
+-- the line of the entity with a number, where it is a solid that no entity names
+abbrev pub root_of : List Entity → ℕ → Row → List ℕ
+root_of rows number r = if is_solid r && not (is_named rows number) then root_line rows number else []
+
+-- the lines of these entities, of which the first stands at this place among all
+abbrev pub roots_from : List Entity → ℕ → List Entity → List ℕ
+roots_from rows place [] = []
+roots_from rows place (entity ∷ entities) = root_of rows (2 * place + 1) entity.row ++ roots_from rows (place + 1) entities
+
+-- the solids that no entity names, in order
+abbrev pub root_lines : List Entity → List ℕ
+root_lines rows = roots_from rows 0 rows
+
 -- the text of a check
 abbrev pub check_text : Model → List ℕ
-check_text model = rows_line model.rows ++ (globals_line model ++ codes "END\n")
+check_text model = rows_line model.rows ++ (globals_line model ++ (root_lines model.rows ++ codes "END\n"))
 
 -- Done comes only for a file, with the text of its model; Refused only for bytes that are refused as a file, with their first fault; no other status comes
 abbrev pub IsChecked : List ℕ → Status → List ℕ → Type 0

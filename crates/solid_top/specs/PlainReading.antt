@@ -1,40 +1,47 @@
--- The reading of a plain number, for the code's small steps. That it is the grammar of PlainNumbers both ways is
--- shown by the laws on it.
-use Rattle.std.specs.Prelude.{ℕ, ℤ, List, [], ◌∷◌, Bool, true, false, cond, not, ◌&&◌, ◌==◌, nat_lt, nat_le, length, take, drop, Option, None, Some}
-use Rattle.std.specs.List.{prefix_len, list_all}
-use Rattle.solid_base.specs.Digits.{is_digit}
+-- The reading of a plain number in front of a text, for the code's small steps. That it is the grammar of PlainNumbers
+-- both ways is shown by the laws on it.
+use Rattle.std.specs.Prelude.{ℕ, ◌+◌, ◌*◌, ◌-◌, ◌^◌, ℤ, List, [], ◌∷◌, Bool, true, false, cond, ◌&&◌, ◌==◌, nat_lt, nat_le, length, take, Option, None, Some}
+use Rattle.solid_base.specs.Digits.{number_of}
 use Rattle.solid_base.specs.Range.{far}
+use Rattle.solid_base.specs.Spelling.{digit_count, behind_digits}
 use Rattle.solid_top.specs.declared.plain_numbers.DecimalPoint.{DecimalPoint}
 use Rattle.solid_top.specs.declared.plain_numbers.DecimalPoint.TheVariants as point
-use Rattle.solid_top.specs.declared.plain_numbers.Parts.{Parts}
-use Rattle.solid_top.specs.PlainNumbers.{PlainNumber, magnitude, signed}
+use Rattle.solid_top.specs.PlainNumbers.{signed}
 use Rattle.solid_top.specs.Reading.{◌>>=◌}
 
--- the parts that code holds, without where they lie
-abbrev pub number_of_parts : Parts → PlainNumber
-number_of_parts p = record { minus = p.minus; whole = p.whole.now; decimals = p.decimals.now }
+abbrev pub front_digits : List ℕ → List ℕ
+front_digits text = take (digit_count text) text
 
-abbrev pub are_decimals : List ℕ → Bool
-are_decimals text = list_all is_digit text && (nat_lt 0 (length text) && nat_le (length text) 12)
+-- the steps in the last of one to twelve decimals
+abbrev pub step_of : ℕ → Option ℕ
+step_of decimals = cond (nat_lt 0 decimals && nat_le decimals 12) (Some (10 ^ (12 - decimals))) None
 
--- the number whose whole digits are read, by what stands behind them
-abbrev pub behind_whole : Bool → List ℕ → List ℕ → Option PlainNumber
-behind_whole minus whole [] = cond (length whole == 0) None (Some (record { minus = minus; whole = whole; decimals = [] }))
-behind_whole minus whole (b ∷ bs) =
-    cond (not (length whole == 0) && ((b == 46) && are_decimals bs)) (Some (record { minus = minus; whole = whole; decimals = bs })) None
+-- decimals in front as steps
+abbrev pub decimals_at : List ℕ → Option (ℕ × List ℕ)
+decimals_at text = step_of (length (front_digits text)) >>= λ step. Some (number_of (front_digits text) * step, behind_digits text)
 
--- the number whose sign is read
-abbrev pub behind_sign : Bool → List ℕ → Option PlainNumber
-behind_sign minus text = behind_whole minus (take (prefix_len is_digit text) text) (drop (prefix_len is_digit text) text)
+-- no point and no decimals
+abbrev pub without_point : DecimalPoint → List ℕ → Option (ℕ × List ℕ)
+without_point point.Optional text = Some (0, text)
+without_point point.Required text = None
 
-unfoldable pub parts_at : List ℕ → Option PlainNumber
-parts_at [] = None
-parts_at (b ∷ bs) = cond (b == 45) (behind_sign true bs) (behind_sign false (b ∷ bs))
+-- a point and decimals in front as steps
+abbrev pub fraction_at : DecimalPoint → List ℕ → Option (ℕ × List ℕ)
+fraction_at rule [] = without_point rule []
+fraction_at rule (b ∷ bs) = cond (b == 46) (decimals_at bs) (without_point rule (b ∷ bs))
 
-abbrev pub has_point : DecimalPoint → PlainNumber → Bool
-has_point point.Optional n = true
-has_point point.Required n = nat_lt 0 (length n.decimals)
+-- the steps of a number without a sign in front: no fraction brings more than 100,000 units back
+unfoldable pub magnitude_at : DecimalPoint → List ℕ → Option (ℕ × List ℕ)
+magnitude_at rule text =
+    cond (nat_lt 0 (length (front_digits text)) && nat_le (number_of (front_digits text)) 100000)
+    (fraction_at rule (behind_digits text) >>= λ found. cond (nat_le (number_of (front_digits text) * 10 ^ 12 + found.0) far) (Some (number_of (front_digits text) * 10 ^ 12 + found.0, found.1)) None)
+    None
 
--- the steps of the plain number that is the whole text
-unfoldable pub plain_at : DecimalPoint → List ℕ → Option ℤ
-plain_at rule text = parts_at text >>= λ n. cond (has_point rule n && nat_le (magnitude n) far) (Some (signed n.minus (magnitude n))) None
+-- whether a minus stands in front, and the bytes behind it
+abbrev pub behind_minus : List ℕ → Bool × List ℕ
+behind_minus [] = (false, [])
+behind_minus (b ∷ bs) = cond (b == 45) (true, bs) (false, b ∷ bs)
+
+-- the steps of a plain number in front
+unfoldable pub plain_at : DecimalPoint → List ℕ → Option (ℤ × List ℕ)
+plain_at rule text = magnitude_at rule (behind_minus text).1 >>= λ found. Some (signed (behind_minus text).0 found.0, found.1)

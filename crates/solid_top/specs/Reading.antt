@@ -17,8 +17,3 @@ unfoldable pub strip : List ℕ → List ℕ → Option (List ℕ)
 strip [] bytes = Some bytes
 strip (t ∷ ts) [] = None
 strip (t ∷ ts) (b ∷ bs) = cond (t == b) (strip ts bs) None
-
--- the bytes before the first stop, and those behind it
-unfoldable pub cut : ℕ → List ℕ → Option (List ℕ × List ℕ)
-cut stop [] = None
-cut stop (b ∷ bs) = cond (b == stop) (Some ([], bs)) (cut stop bs >>= λ found. Some (b ∷ found.0, found.1))

@@ -7,7 +7,7 @@ use Rattle.solid_top.specs.declared.faults.TopFault.TheVariants as fault
 use Rattle.solid_top.specs.declared.questions.PointQuestion.{PointQuestion}
 use Rattle.solid_top.specs.declared.statuses.Status.{Status}
 use Rattle.solid_top.specs.declared.statuses.Status.TheVariants as status
-use Rattle.solid_top.specs.Answers.{replay_text}
+use Rattle.solid_top.specs.Answers.{AreAnswers, replay_text}
 use Rattle.solid_top.specs.Models.{IsReplay, IsNotBuilt}
 use Rattle.solid_top.specs.TopFaults.{refused_text}
 
@@ -15,10 +15,11 @@ use Rattle.solid_top.specs.TopFaults.{refused_text}
 abbrev pub IsRefusal : List ℕ → List ℕ → Type 0
 IsRefusal bytes text = (f : FileFault) × Refused bytes f × (text ≡ refused_text (fault.File f))
 
--- Done comes only for a file whose model is answered and lines behind it that ask questions, with the answers to them; Refused only
--- for bytes that are refused as a file, with their first fault, or for a file that isn't answered yet, with NotBuilt; no other status comes
+-- Done comes only for a file and lines behind it that ask questions, with the answers to them; Refused only for bytes that are refused
+-- as a file, with their first fault, or for a file behind which other lines stand, with NotBuilt; no other status comes
 abbrev pub IsReplayed : List ℕ → Status → List ℕ → Type 0
-IsReplayed bytes status.Done text = (model : Model) × (questions : List PointQuestion) × IsReplay bytes model questions × (text ≡ replay_text model.rows questions)
+IsReplayed bytes status.Done text =
+    (model : Model) × (questions : List PointQuestion) × (answers : List (List ℕ)) × IsReplay bytes model questions × AreAnswers model.rows questions answers × (text ≡ replay_text answers)
 IsReplayed bytes status.Refused text = IsRefusal bytes text ⊎ (IsNotBuilt bytes × (text ≡ refused_text fault.NotBuilt))
 IsReplayed bytes status.Usage text = ⊥
 IsReplayed bytes status.Memory text = ⊥

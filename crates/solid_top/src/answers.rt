@@ -1,128 +1,156 @@
-ghost use Rattle.std.specs.Prelude.{◌≡◌, ◌≤◌, ◌^◌, ◌+◌, ◌++◌, ℕ, List, length, map, OnOk, OnErr, IfOk, IfSome, IfNone};
+ghost use Rattle.std.specs.Prelude.{◌≡◌, ◌≤◌, ◌^◌, ◌+◌, ◌++◌, ℕ, List, decimal, length, map, OnOk, IfOk, IfSome, IfNone};
 ghost use Rattle.std.specs.List.{flat_map, AllByRecursion};
+ghost use Rattle.solid_base.specs.Graph.{weight_of};
 ghost use Rattle.solid_base.specs.Range.{far, IsPointWithin};
 ghost use Rattle.solid_base.specs.Ranges.{IsLawfulRow};
+ghost use Rattle.solid_base.specs.References.{row_at};
 ghost use Rattle.solid_base.specs.Series.{Spells};
+ghost use Rattle.entity_graph.specs.FirstFaults.{IsNumber};
 ghost use Rattle.solid_top.specs.declared.questions.PointQuestion.{PointQuestion};
-ghost use Rattle.solid_top.specs.Answers.{row_of, class_words, no_entity, row_answer, answer, reply_to, row_evaluations, evaluations_on, evaluations};
-ghost use Rattle.solid_top.specs.Ledgers.{Counts, IsLater};
-ghost use Rattle.solid_top.specs.Models.{IsBuiltRow, IsAnswered};
+ghost use Rattle.solid_top.specs.Answers.{class_words, IsSolidAnswer, IsRowAnswer, IsAnswer, AreAnswers, reply_of, most_evaluations};
+ghost use Rattle.solid_eval.specs.Ticks.{RisesUpTo};
+ghost use Rattle.solid_top.specs.Ledgers.{IsLater};
 ghost use Rattle.solid_top.specs.Output.{reply_text};
 ghost use Rattle.solid_top.specs.Points.{IsPointLine};
-ghost use Rattle.solid_top.specs.Reading.{Gives};
 
 use crate::points::point_line;
 use crate::questions::PointQuestion;
-use csg_primitives::leaf;
+use entity_graph::Graph;
 use fixed_enclosure::Box3;
-use solid_base::{Bytes, Class, Cube, Entity, Ledger, Row, Rows, Vec3, push_decimal};
-use std::alloc::AllocError;
+use solid_base::{Bytes, Class, Cube, Ledger, Row, Rows, Verdict, push_decimal};
+use solid_eval::afresh;
+use std::alloc::{AllocError, Global};
 
-/// The entity with a number.
-fn row_of(rows: &Rows, number: u32) -> Option<&Entity>
-    requires { AllByRecursion IsAnswered rows.now }
-    ensures value { Gives (λ entity. entity.now) result (row_of rows.now number) }
-    ensures answered { IfSome result (λ entity. IsAnswered entity.now) }
+/// Adds the words for a verdict.
+fn push_verdict(out: &mut Bytes, verdict: &Verdict) -> Result<(), AllocError>
+    ensures { OnOk result (out.new ≡ out.old ++ class_words verdict.now.leaf verdict.now.class) }
 {
-    let place = (number / 2) as usize;
-    if number % 2 == 1 && place < rows.len() {
-        Some(rows.get(place))
-    } else {
-        None
-    }
-}
-
-fn push_class(out: &mut Bytes, leaf: u32, class: Class) -> Result<(), AllocError>
-    ensures { OnOk result (out.new ≡ out.old ++ class_words leaf class) }
-{
-    match class {
+    match verdict.class {
         Class::Inside => out.extend_from_slice(b"INSIDE"),
         Class::Outside => out.extend_from_slice(b"OUTSIDE"),
-        Class::Mixed => {
-            out.extend_from_slice(b"UNDECIDED ")?;
-            push_decimal(out, leaf)
-        }
+        Class::Mixed => push_number(out, b"UNDECIDED ", verdict.leaf),
     }
 }
 
-fn push_no_entity(out: &mut Bytes, number: u32) -> Result<(), AllocError>
-    ensures { OnOk result (out.new ≡ out.old ++ no_entity number) }
+/// Adds a word and a number behind it.
+fn push_number(out: &mut Bytes, word: &[u8], number: u32) -> Result<(), AllocError>
+    ensures { OnOk result (out.new ≡ out.old ++ (word.now ++ decimal number)) }
 {
-    out.extend_from_slice(b"REFUSED NoEntity ")?;
+    out.extend_from_slice(word)?;
     push_decimal(out, number)
 }
 
-/// The words for a point on a row. A primitive is evaluated once.
-fn push_row_answer<L: Ledger>(
-    out: &mut Bytes,
-    number: u32,
-    at: &Vec3,
-    row: &Row,
-    leaves: &mut L,
-) -> Result<(), AllocError>
-    requires built { IsBuiltRow row.now }
-    requires lawful { IsLawfulRow row.now }
-    requires point { IsPointWithin far at.now }
-    ensures answer { OnOk result (out.new ≡ out.old ++ row_answer number at.now row.now) }
-    ensures ledger { Counts (L.count leaves.old) (L.count leaves.new) (row_evaluations row.now) }
-{
-    match row {
-        Row::Prim { prim, .. } => {
-            let class = leaf(prim, &Box3::of(&Cube { lo: *at, hi: *at }), leaves);
-            push_class(out, number, class)
-        }
-        _ => push_no_entity(out, number),
-    }
-}
-
-fn push_answer<L: Ledger>(
+/// Adds the words for a point on an entity that may be a solid: its verdict over the box of the point
+/// alone, or the number of an entity that it needs and that isn't read.
+fn push_solid_answer<L: Ledger>(
+    alloc: Global,
     out: &mut Bytes,
     rows: &Rows,
+    graph: &Graph,
     question: &PointQuestion,
     leaves: &mut L,
 ) -> Result<(), AllocError>
-    requires rows { AllByRecursion IsAnswered rows.now }
+    requires graph { graph.now ≡ rows.now }
+    requires lawful { AllByRecursion (λ e. IsLawfulRow e.row) rows.now }
+    requires number { IsNumber rows.now question.now.entity }
     requires point { IsPointWithin far question.now.at }
-    ensures answer { OnOk result (out.new ≡ out.old ++ answer rows.now question.now) }
-    ensures ledger { Counts (L.count leaves.old) (L.count leaves.new) (evaluations_on (row_of rows.now question.now.entity)) }
+    ensures answer { OnOk result ((words : List ℕ) × IsSolidAnswer rows.now question.now.entity question.now.at words × (out.new ≡ out.old ++ words)) }
+    ensures ledger { RisesUpTo (L.count leaves.old) (L.count leaves.new) (weight_of rows.now question.now.entity) }
 {
-    match row_of(rows, question.entity) {
-        Some(entity) => push_row_answer(out, question.entity, &question.at, &entity.row, leaves),
-        None => push_no_entity(out, question.entity),
+    match graph.opaque(question.entity) {
+        0 => {
+            let at = Box3::of(&Cube {
+                lo: question.at,
+                hi: question.at,
+            });
+            let verdict = afresh(alloc, rows, graph, question.entity, &at, leaves)?;
+            push_verdict(out, &verdict)
+        }
+        unread => push_number(out, b"REFUSED Unsupported ", unread),
+    }
+}
+
+/// Adds the words for a point on a row: NotSolid on a matrix. A null row is no entity.
+fn push_row_answer<L: Ledger>(
+    alloc: Global,
+    out: &mut Bytes,
+    rows: &Rows,
+    graph: &Graph,
+    question: &PointQuestion,
+    row: &Row,
+    leaves: &mut L,
+) -> Result<(), AllocError>
+    requires graph { graph.now ≡ rows.now }
+    requires lawful { AllByRecursion (λ e. IsLawfulRow e.row) rows.now }
+    requires row { row_at rows.now question.now.entity ≡ row.now }
+    requires point { IsPointWithin far question.now.at }
+    ensures answer { OnOk result ((words : List ℕ) × IsRowAnswer rows.now question.now.entity question.now.at row.now words × (out.new ≡ out.old ++ words)) }
+    ensures ledger { RisesUpTo (L.count leaves.old) (L.count leaves.new) (weight_of rows.now question.now.entity) }
+{
+    match row {
+        Row::Null => push_number(out, b"REFUSED NoEntity ", question.entity),
+        Row::Matrix { .. } => push_number(out, b"REFUSED NotSolid ", question.entity),
+        _ => push_solid_answer(alloc, out, rows, graph, question, leaves),
+    }
+}
+
+/// Adds the words for a point: NoEntity where its number is that of no entity.
+fn push_answer<L: Ledger>(
+    alloc: Global,
+    out: &mut Bytes,
+    rows: &Rows,
+    graph: &Graph,
+    question: &PointQuestion,
+    leaves: &mut L,
+) -> Result<(), AllocError>
+    requires graph { graph.now ≡ rows.now }
+    requires lawful { AllByRecursion (λ e. IsLawfulRow e.row) rows.now }
+    requires point { IsPointWithin far question.now.at }
+    ensures answer { OnOk result ((words : List ℕ) × IsAnswer rows.now question.now words × (out.new ≡ out.old ++ words)) }
+    ensures ledger { RisesUpTo (L.count leaves.old) (L.count leaves.new) (weight_of rows.now question.now.entity) }
+{
+    match rows.row(question.entity) {
+        Some(row) => push_row_answer(alloc, out, rows, graph, question, row, leaves),
+        None => push_number(out, b"REFUSED NoEntity ", question.entity),
     }
 }
 
 fn push_reply<L: Ledger>(
+    alloc: Global,
     out: &mut Bytes,
     rows: &Rows,
+    graph: &Graph,
     question: &PointQuestion,
     leaves: &mut L,
 ) -> Result<(), AllocError>
-    requires rows { AllByRecursion IsAnswered rows.now }
+    requires graph { graph.now ≡ rows.now }
+    requires lawful { AllByRecursion (λ e. IsLawfulRow e.row) rows.now }
     requires point { IsPointWithin far question.now.at }
-    ensures reply { OnOk result (out.new ≡ out.old ++ reply_text (reply_to rows.now question.now)) }
-    ensures ledger { OnOk result (Counts (L.count leaves.old) (L.count leaves.new) (evaluations_on (row_of rows.now question.now.entity))) }
-    ensures later { IsLater (L.count leaves.old) (L.count leaves.new) }
+    ensures reply { OnOk result ((words : List ℕ) × IsAnswer rows.now question.now words × (out.new ≡ out.old ++ reply_text (reply_of words))) }
+    ensures ledger { RisesUpTo (L.count leaves.old) (L.count leaves.new) (weight_of rows.now question.now.entity) }
 {
     out.extend_from_slice(b"0 ")?;
-    push_answer(out, rows, question, leaves)?;
+    push_answer(alloc, out, rows, graph, question, leaves)?;
     out.extend_from_slice(b"\n")
 }
 
 /// Adds the replies to the lines of a script, and tells how many they are. None where the script is
 /// not made of point lines; then what was added is of no use.
 pub fn push_replies<L: Ledger>(
+    alloc: Global,
     out: &mut Bytes,
     rows: &Rows,
+    graph: &Graph,
     script: &[u8],
     leaves: &mut L,
 ) -> Result<Option<u32>, AllocError>
-    requires rows { AllByRecursion IsAnswered rows.now }
+    requires graph { graph.now ≡ rows.now }
+    requires lawful { AllByRecursion (λ e. IsLawfulRow e.row) rows.now }
     requires size { length script.now ≤ 2 ^ 25 }
-    ensures found { IfOk result (λ found. IfSome found (λ count. (questions : List PointQuestion) ×
-        Spells IsPointLine 0 script.now questions × (count ≡ length questions) ×
-        (out.new ≡ out.old ++ flat_map reply_text (map (reply_to rows.now) questions)) ×
-        Counts (L.count leaves.old) (L.count leaves.new) (evaluations rows.now questions))) }
+    ensures found { IfOk result (λ found. IfSome found (λ count. (questions : List PointQuestion) × (answers : List (List ℕ)) ×
+        Spells IsPointLine 0 script.now questions × AreAnswers rows.now questions answers × (count ≡ length answers) ×
+        (out.new ≡ out.old ++ flat_map reply_text (map reply_of answers)) ×
+        RisesUpTo (L.count leaves.old) (L.count leaves.new) (most_evaluations rows.now questions))) }
     ensures none { IfOk result (λ found. IfNone found ((questions : List PointQuestion) → Spells IsPointLine 0 script.now questions → ⊥)) }
     ensures later { IsLater (L.count leaves.old) (L.count leaves.new) }
 {
@@ -132,7 +160,7 @@ pub fn push_replies<L: Ledger>(
         let Some((question, behind)) = point_line(rest) else {
             return Ok(None);
         };
-        push_reply(out, rows, &question, leaves)?;
+        push_reply(alloc, out, rows, graph, &question, leaves)?;
         rest = behind;
         count += 1;
     }

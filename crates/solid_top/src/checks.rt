@@ -3,7 +3,8 @@ ghost use Rattle.solid_top.specs.declared.statuses.Status.{Status};
 ghost use Rattle.solid_top.specs.Checks.{IsChecked, check_text, global_words, globals_line, rows_line, tallies_of, with_row};
 
 use crate::faults::of_file;
-use crate::replay::{Output, refused};
+use crate::replay::{Output, graph_of, refused};
+use crate::roots::push_roots;
 use crate::statuses::Status;
 use iges_file::read_model;
 use solid_base::{Bytes, Model, Row, Rows, Token, push_decimal};
@@ -118,16 +119,19 @@ fn check_text(alloc: Global, model: &Model) -> Result<Bytes, AllocError>
     requires { length model.now.rows ≤ 100000 }
     ensures { IfOk result (λ text. text ≡ check_text model.now) }
 {
+    let graph = graph_of(alloc, &model.rows)?;
     let mut text = Bytes::new(alloc);
     push_rows(&mut text, &model.rows)?;
     push_globals(&mut text, model)?;
+    push_roots(alloc, &mut text, &model.rows, &graph)?;
     text.extend_from_slice(b"END\n")?;
     Ok(text)
 }
 
 /// Reads a file in the fixed form, of at most 2^25 bytes, and tells what it holds: how many rows there
-/// are, how many of them are read, kept and null, and the model space scale, the units flag and the
-/// version flag (IGES 5.3, 2.2.4.3, parameters 13, 14 and 23). The status is then `Done`.
+/// are, how many of them are read, kept and null; the model space scale, the units flag and the version
+/// flag (IGES 5.3, 2.2.4.3, parameters 13, 14 and 23); and the number, the weight and the depth of each
+/// solid that no entity names. The status is then `Done`.
 ///
 /// Bytes that are no file are `Refused`, and the text is the line of their first fault. AllocError comes
 /// where memory is wanting.

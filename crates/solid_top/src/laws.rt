@@ -5,7 +5,7 @@ ghost use Rattle.solid_base.specs.declared.entities.Model.{Model};
 ghost use Rattle.solid_top.specs.declared.plain_numbers.DecimalPoint.{DecimalPoint};
 ghost use Rattle.solid_top.specs.declared.questions.PointQuestion.{PointQuestion};
 ghost use Rattle.solid_top.specs.declared.statuses.Status.{Status};
-ghost use Rattle.solid_top.specs.Answers.{row_of};
+ghost use Rattle.solid_base.specs.References.{at_number};
 ghost use Rattle.solid_top.specs.Models.{IsReplay};
 ghost use Rattle.solid_top.specs.PlainNumbers.{IsPlain};
 ghost use Rattle.solid_top.specs.Replay.{IsReplayed};
@@ -26,7 +26,7 @@ pub fn one_replay()
 /// The rows have the odd numbers in order: that at place `i`, counted from 0, has the number 2i + 1. No
 /// row has an even number.
 pub fn row_numbers()
-    ensures { (rows : List Entity) (place : ℕ) → (row_of rows (2 * place + 1) ≡ slice_get rows place) × (row_of rows (2 * place) ≡ None) }
+    ensures { (rows : List Entity) (place : ℕ) → (at_number rows (2 * place + 1) ≡ slice_get rows place) × (at_number rows (2 * place) ≡ None) }
 {}
 
 /// The steps of a plain number are the reading of its text as a decimal: its exact value in steps of

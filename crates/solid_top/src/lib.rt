@@ -14,6 +14,7 @@ mod program;
 pub mod program_laws;
 mod questions;
 mod replay;
+mod roots;
 mod scan;
 mod statuses;
 mod streams;

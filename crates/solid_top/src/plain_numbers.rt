@@ -1,12 +1,10 @@
-ghost use Rattle.std.specs.Prelude.{◌≡◌, ◌≤◌, ◌<◌, IfSome, MatchOption};
-ghost use Rattle.std.specs.List.{list_all};
-ghost use Rattle.solid_base.specs.Digits.{is_digit};
+ghost use Rattle.std.specs.Prelude.{◌≡◌, ◌<◌, ◌≤◌, ◌^◌, IfSome};
 ghost use Rattle.solid_base.specs.Range.{far, IsWithin};
-ghost use Rattle.solid_top.specs.PlainNumbers.{HasDigits, magnitude, signed};
-ghost use Rattle.solid_top.specs.PlainReading.{are_decimals, behind_whole, behind_sign, parts_at, plain_at, number_of_parts};
+ghost use Rattle.solid_top.specs.PlainNumbers.{signed};
+ghost use Rattle.solid_top.specs.PlainReading.{step_of, decimals_at, fraction_at, magnitude_at, behind_minus, plain_at};
 ghost use Rattle.solid_top.specs.Reading.{Gives};
 
-use solid_base::{digit_count, number_up_to};
+use crate::scan::digits;
 
 /// Whether a number has to have a point.
 #[derive(Clone, Copy, Debug, PartialEq, Eq)]
@@ -15,87 +13,71 @@ pub enum DecimalPoint {
     Required,
 }
 
-/// The parts of a plain number. Without a point there are no decimals.
-#[derive(Clone, Copy, Debug)]
-struct Parts<'a> {
-    minus: bool,
-    whole: &'a [u8],
-    decimals: &'a [u8],
-}
-
-/// One more than the greatest number that is told exactly.
-const PAST: u64 = 1_000_000_000_000_000_001;
-
 /// The steps in one unit.
 const UNIT: u64 = 1_000_000_000_000;
 
 /// The greatest magnitude, in units.
 const FAR_UNITS: u64 = 100_000;
 
-pub fn are_digits(text: &[u8]) -> bool
-    ensures { result ≡ list_all is_digit text.now }
+/// The steps in the last of so many decimals, of which there are one to twelve.
+fn step_of(decimals: usize) -> Option<u64>
+    ensures { Gives (λ step. step) result (step_of decimals) }
 {
-    text.iter().all(|b| *b >= b'0' && *b <= b'9')
-}
-
-fn are_decimals(text: &[u8]) -> bool
-    ensures { result ≡ are_decimals text.now }
-{
-    are_digits(text) && !text.is_empty() && text.len() <= 12
-}
-
-fn behind_whole<'a>(minus: bool, whole: &'a [u8], rest: &'a [u8]) -> Option<Parts<'a>>
-    ensures { Gives number_of_parts result (behind_whole minus whole.now rest.now) }
-{
-    match rest {
-        [] if whole.is_empty() => None,
-        [] => Some(Parts {
-            minus,
-            whole,
-            decimals: rest,
-        }),
-        [b'.', decimals @ ..] if !whole.is_empty() && are_decimals(decimals) => Some(Parts {
-            minus,
-            whole,
-            decimals,
-        }),
+    match decimals {
+        1 => Some(100_000_000_000),
+        2 => Some(10_000_000_000),
+        3 => Some(1_000_000_000),
+        4 => Some(100_000_000),
+        5 => Some(10_000_000),
+        6 => Some(1_000_000),
+        7 => Some(100_000),
+        8 => Some(10_000),
+        9 => Some(1_000),
+        10 => Some(100),
+        11 => Some(10),
+        12 => Some(1),
         _ => None,
     }
 }
 
-fn behind_sign(minus: bool, text: &[u8]) -> Option<Parts<'_>>
-    ensures { Gives number_of_parts result (behind_sign minus text.now) }
+/// Decimals in front as steps, and the bytes behind them.
+fn decimals(bytes: &[u8]) -> Option<(u64, &[u8])>
+    ensures value { Gives (λ found. (found.0, found.1.now)) result (decimals_at bytes.now) }
+    ensures within { IfSome result (λ found. found.0 < 10 ^ 12) }
 {
-    let (whole, rest) = text.split_at(digit_count(text));
-    behind_whole(minus, whole, rest)
+    let digits = digits(bytes)?;
+    let step = step_of(digits.count)?;
+    Some((digits.number * step, digits.rest))
 }
 
-#[tactic(auto, unfolding(crate::specs::PlainReading::parts_at))]
-fn parts_of(text: &[u8]) -> Option<Parts<'_>>
-    ensures { Gives number_of_parts result (parts_at text.now) }
+/// A point and decimals in front as steps, and the bytes behind them; none are 0 steps.
+fn fraction(rule: DecimalPoint, bytes: &[u8]) -> Option<(u64, &[u8])>
+    ensures value { Gives (λ found. (found.0, found.1.now)) result (fraction_at rule bytes.now) }
+    ensures within { IfSome result (λ found. found.0 < 10 ^ 12) }
 {
-    match text {
-        [] => None,
-        [b'-', rest @ ..] => behind_sign(true, rest),
-        _ => behind_sign(false, text),
+    match bytes {
+        [b'.', behind @ ..] => decimals(behind),
+        _ if rule == DecimalPoint::Optional => Some((0, bytes)),
+        _ => None,
     }
 }
 
-/// The magnitude in steps, where it is at most 100,000 units.
-fn magnitude(parts: &Parts<'_>) -> Option<u64>
-    requires { HasDigits (number_of_parts parts.now) }
-    ensures { MatchOption result (far < magnitude (number_of_parts parts.now)) (λ m. (m ≡ magnitude (number_of_parts parts.now)) × (m ≤ far)) }
+/// The steps of a number without a sign in front, and the bytes behind it.
+#[tactic(auto, unfolding(crate::specs::PlainReading::magnitude_at))]
+fn magnitude(rule: DecimalPoint, bytes: &[u8]) -> Option<(u64, &[u8])>
+    ensures value { Gives (λ found. (found.0, found.1.now)) result (magnitude_at rule bytes.now) }
+    ensures within { IfSome result (λ found. found.0 ≤ far) }
 {
-    let whole = number_up_to(parts.whole, PAST);
-    if whole > FAR_UNITS {
+    let whole = digits(bytes)?;
+    if whole.count == 0 || whole.number > FAR_UNITS {
         return None;
     }
-    let scale = 10u64.pow(12 - parts.decimals.len() as u32);
-    let steps = whole * UNIT + number_up_to(parts.decimals, PAST) * scale;
+    let (decimals, rest) = fraction(rule, whole.rest)?;
+    let steps = whole.number * UNIT + decimals;
     if steps > FAR_UNITS * UNIT {
         None
     } else {
-        Some(steps)
+        Some((steps, rest))
     }
 }
 
@@ -109,16 +91,23 @@ fn signed(minus: bool, magnitude: u64) -> i128
     }
 }
 
-/// The steps of the plain number that is the whole text.
-#[tactic(auto, unfolding(crate::specs::PlainReading::plain_at))]
-pub fn plain(rule: DecimalPoint, text: &[u8]) -> Option<i128>
-    ensures value { Gives (λ steps. steps) result (plain_at rule text.now) }
-    ensures within { IfSome result (λ steps. IsWithin far steps) }
+/// Whether a minus stands in front, and the bytes behind it.
+fn behind_minus(bytes: &[u8]) -> (bool, &[u8])
+    ensures { (result.0, result.1.now) ≡ behind_minus bytes.now }
 {
-    let parts = parts_of(text)?;
-    if rule == DecimalPoint::Required && parts.decimals.is_empty() {
-        return None;
+    match bytes {
+        [b'-', rest @ ..] => (true, rest),
+        _ => (false, bytes),
     }
-    let steps = magnitude(&parts)?;
-    Some(signed(parts.minus, steps))
+}
+
+/// The steps of a plain number in front, and the bytes behind it.
+#[tactic(auto, unfolding(crate::specs::PlainReading::plain_at))]
+pub fn plain(rule: DecimalPoint, bytes: &[u8]) -> Option<(i128, &[u8])>
+    ensures value { Gives (λ found. (found.0, found.1.now)) result (plain_at rule bytes.now) }
+    ensures within { IfSome result (λ found. IsWithin far found.0) }
+{
+    let (minus, unsigned) = behind_minus(bytes);
+    let (steps, rest) = magnitude(rule, unsigned)?;
+    Some((signed(minus, steps), rest))
 }

@@ -3,10 +3,10 @@ ghost use Rattle.solid_base.specs.Range.{far, IsWithin, IsPointWithin};
 ghost use Rattle.solid_top.specs.FormReading.{delimited_at, position_at, entity_number_at, point_at};
 ghost use Rattle.solid_top.specs.Reading.{Gives};
 
-use crate::plain_numbers::{DecimalPoint, are_digits, plain};
+use crate::plain_numbers::{DecimalPoint, plain};
 use crate::questions::PointQuestion;
-use crate::scan::{cut, text};
-use solid_base::{Vec3, number_up_to};
+use crate::scan::{byte, digits, text};
+use solid_base::Vec3;
 
 /// A plain number in front, and the bytes behind the byte that ends it.
 #[tactic(auto, unfolding(crate::specs::FormReading::delimited_at))]
@@ -14,8 +14,8 @@ pub fn delimited(rule: DecimalPoint, stop: u8, bytes: &[u8]) -> Option<(i128, &[
     ensures value { Gives (λ found. (found.0, found.1.now)) result (delimited_at rule stop bytes.now) }
     ensures within { IfSome result (λ found. IsWithin far found.0) }
 {
-    let (number, rest) = cut(stop, bytes)?;
-    let steps = plain(rule, number)?;
+    let (steps, rest) = plain(rule, bytes)?;
+    let rest = byte(stop, rest)?;
     Some((steps, rest))
 }
 
@@ -31,19 +31,19 @@ pub fn position(rule: DecimalPoint, between: u8, behind: u8, bytes: &[u8]) -> Op
     Some((Vec3 { x, y, z }, rest))
 }
 
-/// The number of an entity that is the whole text.
+/// The number of an entity in front, and the bytes behind it.
 #[tactic(auto, unfolding(crate::specs::FormReading::entity_number_at))]
-fn entity_number(text: &[u8]) -> Option<u32>
-    ensures { Gives (λ number. number) result (entity_number_at text.now) }
+fn entity_number(bytes: &[u8]) -> Option<(u32, &[u8])>
+    ensures { Gives (λ found. (found.0, found.1.now)) result (entity_number_at bytes.now) }
 {
-    if !are_digits(text) || text.is_empty() || text.len() > 9 {
+    let digits = digits(bytes)?;
+    if digits.count == 0 || digits.count > 9 {
         return None;
     }
-    let number = number_up_to(text, 999_999_999);
-    if number == 0 {
+    if digits.number == 0 {
         None
     } else {
-        Some(number as u32)
+        Some((digits.number as u32, digits.rest))
     }
 }
 
@@ -54,8 +54,8 @@ pub fn point_line(bytes: &[u8]) -> Option<(PointQuestion, &[u8])>
     ensures within { IfSome result (λ found. IsPointWithin far found.0.at) }
 {
     let rest = text(b"@1 point ", bytes)?;
-    let (number, rest) = cut(b' ', rest)?;
-    let entity = entity_number(number)?;
+    let (entity, rest) = entity_number(rest)?;
+    let rest = byte(b' ', rest)?;
     let (at, rest) = position(DecimalPoint::Optional, b' ', b'\n', rest)?;
     Some((PointQuestion { entity, at }, rest))
 }

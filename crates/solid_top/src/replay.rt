@@ -1,14 +1,16 @@
 ghost use Rattle.std.specs.Prelude.{◌≡◌, ◌≤◌, ◌+◌, ◌^◌, ◌++◌, [], ◌∷◌, ℕ, List, length, min, IsTrue, ◌↔◌, IfOk, IfSome, IfNone, OnOk};
 ghost use Rattle.std.specs.List.{flat_map, AllByRecursion};
-ghost use Rattle.iges_file.specs.Entities.{IsWritable};
+ghost use Rattle.solid_base.specs.Graph.{AreSound};
+ghost use Rattle.solid_base.specs.Ranges.{IsLawfulRow};
 ghost use Rattle.solid_base.specs.Series.{Spells};
 ghost use Rattle.solid_base.specs.declared.entities.Model.{Model};
 ghost use Rattle.solid_base.specs.declared.replies.Reply.{Reply};
 ghost use Rattle.solid_top.specs.declared.questions.PointQuestion.{PointQuestion};
 ghost use Rattle.solid_top.specs.declared.statuses.Status.{Status};
-ghost use Rattle.solid_top.specs.Answers.{replay_text, evaluations};
-ghost use Rattle.solid_top.specs.Ledgers.{Counts, IsLater};
-ghost use Rattle.solid_top.specs.Models.{IsBuiltRow, AreBuilt, IsReplay};
+ghost use Rattle.solid_top.specs.Answers.{AreAnswers, replay_text, most_evaluations};
+ghost use Rattle.solid_eval.specs.Ticks.{RisesUpTo};
+ghost use Rattle.solid_top.specs.Ledgers.{IsLater};
+ghost use Rattle.solid_top.specs.Models.{IsReplay};
 ghost use Rattle.solid_top.specs.Output.{reply_text, session_text, output_text};
 ghost use Rattle.solid_top.specs.Points.{IsPointLine};
 ghost use Rattle.solid_top.specs.Replay.{IsReplayed};
@@ -17,8 +19,9 @@ ghost use Rattle.solid_top.specs.TopFaults.{IsOfText, refused_text};
 use crate::answers::push_replies;
 use crate::faults::{TopFault, of_file};
 use crate::statuses::Status;
+use entity_graph::Graph;
 use iges_file::read_model;
-use solid_base::{Bytes, Ledger, Row, Rows, push_decimal};
+use solid_base::{Bytes, Ledger, Rows, push_decimal};
 use std::alloc::{AllocError, Global};
 
 /// What a run answers: its status, and the text to be written.
@@ -72,50 +75,36 @@ pub fn refused(alloc: Global, fault: TopFault) -> Result<Output, AllocError>
     })
 }
 
-/// Whether a row is answered: nothing, or a primitive that no matrix moves.
-fn is_built_row(row: &Row) -> bool
-    ensures { IsTrue result ↔ IsBuiltRow row.now }
+/// The graph of rows whose references obey the rules: there is no fault in them, so that memory alone can
+/// be wanting.
+pub fn graph_of(alloc: Global, rows: &Rows) -> Result<Graph, AllocError>
+    requires { length rows.now ≤ 100000 }
+    ensures graph { IfOk result (λ graph. graph ≡ rows.now) }
+    ensures sound { IfOk result (λ _. AreSound rows.now) }
 {
-    match row {
-        Row::Null => true,
-        Row::Prim { matrix, .. } => *matrix == 0,
-        _ => false,
-    }
+    Graph::check(alloc, rows).map_err(|_| AllocError)
 }
 
-/// Whether every row is answered.
-fn are_built(rows: &Rows) -> bool
-    ensures { IsTrue result ↔ AreBuilt rows.now }
-{
-    for at in 0..rows.len() {
-        if !is_built_row(&rows.get(at).row) {
-            return false;
-        }
-    }
-    true
-}
-
-/// The text of the answers to a script over rows. None where a row isn't answered, or the script is not
-/// made of point lines.
+/// The text of the answers to a script over rows whose references obey the rules. None where the script
+/// is not made of point lines.
 fn replay_rows<L: Ledger>(
     alloc: Global,
     rows: &Rows,
     script: &[u8],
     leaves: &mut L,
 ) -> Result<Option<Bytes>, AllocError>
-    requires writable { AllByRecursion IsWritable rows.now }
+    requires few { length rows.now ≤ 100000 }
+    requires lawful { AllByRecursion (λ e. IsLawfulRow e.row) rows.now }
     requires size { length script.now ≤ 2 ^ 25 }
-    ensures found { IfOk result (λ found. IfSome found (λ text. AreBuilt rows.now × ((questions : List PointQuestion) ×
-        Spells IsPointLine 0 script.now questions × (text ≡ replay_text rows.now questions) ×
-        Counts (L.count leaves.old) (L.count leaves.new) (evaluations rows.now questions)))) }
-    ensures none { IfOk result (λ found. IfNone found (AreBuilt rows.now → (questions : List PointQuestion) → Spells IsPointLine 0 script.now questions → ⊥)) }
+    ensures found { IfOk result (λ found. IfSome found (λ text. (questions : List PointQuestion) × (answers : List (List ℕ)) ×
+        Spells IsPointLine 0 script.now questions × AreAnswers rows.now questions answers × (text ≡ replay_text answers) ×
+        RisesUpTo (L.count leaves.old) (L.count leaves.new) (most_evaluations rows.now questions))) }
+    ensures none { IfOk result (λ found. IfNone found ((questions : List PointQuestion) → Spells IsPointLine 0 script.now questions → ⊥)) }
     ensures later { IsLater (L.count leaves.old) (L.count leaves.new) }
 {
-    if !are_built(rows) {
-        return Ok(None);
-    }
+    let graph = graph_of(alloc, rows)?;
     let mut replies = Bytes::new(alloc);
-    match push_replies(&mut replies, rows, script, leaves)? {
+    match push_replies(alloc, &mut replies, rows, &graph, script, leaves)? {
         Some(count) => Ok(Some(replay_output(alloc, count, replies.as_slice())?)),
         None => Ok(None),
     }
@@ -129,7 +118,7 @@ fn replay_bytes<L: Ledger>(
     requires { length bytes.now ≤ 2 ^ 25 }
     ensures replayed { IfOk result (λ out. IsReplayed bytes.now out.status out.text) }
     ensures counted { IfOk result (λ out. out.status ≡ Status.Done → (model : Model) × (questions : List PointQuestion) × IsReplay bytes.now model questions ×
-        Counts (L.count leaves.old) (L.count leaves.new) (evaluations model.rows questions)) }
+        RisesUpTo (L.count leaves.old) (L.count leaves.new) (most_evaluations model.rows questions)) }
     ensures later { IsLater (L.count leaves.old) (L.count leaves.new) }
 {
     let (model, end) = match read_model(alloc, bytes) {
@@ -146,8 +135,8 @@ fn replay_bytes<L: Ledger>(
 }
 
 /// Answers the points behind a file: a line of session 1 for each. Bytes that are no file are refused
-/// with their first fault; a model with a row that isn't answered yet, or with lines that are no points,
-/// with NotBuilt. Each point on a primitive counts as one evaluation. Want of memory is an error.
+/// with their first fault, and a file behind which stand lines that ask no points with NotBuilt. A point
+/// counts as at most so many evaluations as its entity weighs. Want of memory is an error.
 pub fn replay_run<L: Ledger>(
     alloc: Global,
     bytes: &[u8],
@@ -157,7 +146,7 @@ pub fn replay_run<L: Ledger>(
     ensures replayed { IfOk result (λ out. IsReplayed bytes.now out.status out.text) }
     ensures only { (s : Status) (text : List ℕ) → IsReplayed bytes.now s text → IfOk result (λ out. (out.status ≡ s) × (out.text ≡ text)) }
     ensures ledger { (model : Model) (questions : List PointQuestion) → IsReplay bytes.now model questions → L.count leaves.old ≤ u64.MAX →
-        IfOk result (λ out. L.count leaves.new ≡ min (L.count leaves.old + evaluations model.rows questions) u64.MAX) }
+        IfOk result (λ out. L.count leaves.new ≤ L.count leaves.old + most_evaluations model.rows questions) }
     ensures later { L.count leaves.old ≤ u64.MAX → L.count leaves.old ≤ L.count leaves.new }
 {
     replay_bytes(alloc, bytes, leaves)

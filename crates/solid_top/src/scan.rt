@@ -1,5 +1,20 @@
-ghost use Rattle.std.specs.Prelude.{◌≡◌, length, IfSome, IfNone, All, take, slice_index, ◌<◌, ◌≢◌};
-ghost use Rattle.solid_top.specs.Reading.{Gives, strip, cut};
+ghost use Rattle.std.specs.Prelude.{◌≡◌, ◌≤◌, ◌<◌, ◌^◌, [], ◌∷◌, length, IfSome, IfNone};
+ghost use Rattle.solid_base.specs.Digits.{number_of};
+ghost use Rattle.solid_base.specs.Spelling.{behind_digits};
+ghost use Rattle.solid_top.specs.Reading.{Gives, strip};
+ghost use Rattle.solid_top.specs.PlainReading.{front_digits};
+
+/// The digits in front of a text: the number that they spell, how many they are, and the bytes behind
+/// them.
+#[derive(Clone, Copy, Debug)]
+pub struct Front<'a> {
+    pub number: u64,
+    pub count: usize,
+    pub rest: &'a [u8],
+}
+
+/// The least number that is told no more: one of thirteen digits.
+const PAST: u64 = 1_000_000_000_000;
 
 /// The bytes behind a text that stands in front.
 pub fn text<'a>(expected: &[u8], bytes: &'a [u8]) -> Option<&'a [u8]>
@@ -12,18 +27,41 @@ pub fn text<'a>(expected: &[u8], bytes: &'a [u8]) -> Option<&'a [u8]>
     }
 }
 
-fn place_of(stop: u8, bytes: &[u8]) -> Option<usize>
-    ensures found { IfSome result (λ n. (n < length bytes.now) × (slice_index bytes.now n ≡ stop)) }
-    ensures before { IfSome result (λ n. All (λ b. b ≢ stop) (take n bytes.now)) }
-    ensures none { IfNone result (All (λ b. b ≢ stop) bytes.now) }
+/// The bytes behind a byte that stands in front.
+#[tactic(auto, unfolding(crate::specs::Reading::strip))]
+pub fn byte(expected: u8, bytes: &[u8]) -> Option<&[u8]>
+    ensures { Gives (λ rest. rest.now) result (strip (expected ∷ []) bytes.now) }
 {
-    bytes.iter().position(|b| *b == stop)
+    match bytes {
+        [first, rest @ ..] if expected == *first => Some(rest),
+        _ => None,
+    }
 }
 
-/// The bytes before the first stop, and those behind it.
-pub fn cut(stop: u8, bytes: &[u8]) -> Option<(&[u8], &[u8])>
-    ensures { Gives (λ found. (found.0.now, found.1.now)) result (cut stop bytes.now) }
+/// The digits in front of a text. None where they spell 10^12 or more.
+pub fn digits(bytes: &[u8]) -> Option<Front<'_>>
+    ensures number { IfSome result (λ found. (found.number ≡ number_of (front_digits bytes.now)) × (found.number < 10 ^ 12)) }
+    ensures count { IfSome result (λ found. found.count ≡ length (front_digits bytes.now)) }
+    ensures rest { IfSome result (λ found. found.rest.now ≡ behind_digits bytes.now) }
+    ensures none { IfNone result (10 ^ 12 ≤ number_of (front_digits bytes.now)) }
 {
-    let place = place_of(stop, bytes)?;
-    Some((&bytes[..place], &bytes[place + 1..]))
+    let mut number: u64 = 0;
+    for (count, b) in bytes.iter().enumerate() {
+        if !b.is_ascii_digit() {
+            return Some(Front {
+                number,
+                count,
+                rest: &bytes[count..],
+            });
+        }
+        number = number * 10 + u64::from(*b - b'0');
+        if number >= PAST {
+            return None;
+        }
+    }
+    Some(Front {
+        number,
+        count: bytes.len(),
+        rest: &[],
+    })
 }

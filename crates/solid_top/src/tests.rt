@@ -1,4 +1,5 @@
 //! Whole runs on worked inputs: each status once for each command, and each allocating call with ample memory.
+use crate::replay_tests::{Record, file_of};
 use crate::{Status, TopFault, check_run, replay_run, run};
 use solid_base::{Bytes, Numbers, Tally};
 use solid_io::{MemSink, MemSource, OpenGate};
@@ -74,7 +75,7 @@ fn expect_check(
     status: Status,
     want: &str,
 ) -> Result<(), AllocError> {
-    assert!(rt; bytes.len() < 2000);
+    assert!(rt; bytes.len() < 10_000);
     let output = check_run(alloc, bytes)?;
     assert_eq!(rt; output.status, status, "{want}");
     assert_eq!(rt; output.text.as_slice(), want.as_bytes());
@@ -84,8 +85,8 @@ fn expect_check(
 #[test]
 fn files_are_told(rt: HostRuntime) -> Result<(), AllocError> {
     let alloc = rt.alloc();
-    let none = "MODEL 1 READ 1 KEPT 0 NULL 0\nSCALE - UNITS - VERSION -\nEND\n";
-    let some = "MODEL 4 READ 1 KEPT 2 NULL 1\nSCALE 1.5 UNITS 2 VERSION 11\nEND\n";
+    let none = "MODEL 1 READ 1 KEPT 0 NULL 0\nSCALE - UNITS - VERSION -\nROOT 1 1 1\nEND\n";
+    let some = "MODEL 4 READ 1 KEPT 2 NULL 1\nSCALE 1.5 UNITS 2 VERSION 11\nROOT 1 1 1\nEND\n";
     let sphere = text(alloc, &SPHERE)?;
     let bars = ended(alloc, &BARS, b"\r\n")?;
     let mixed = text(alloc, &MIXED)?;
@@ -95,6 +96,68 @@ fn files_are_told(rt: HostRuntime) -> Result<(), AllocError> {
     let cut = front(&rt, bars.as_slice(), 200);
     let short = "MODEL REFUSED ShortLine 3\n";
     expect_check(&rt, alloc, cut, Status::Refused, short)
+}
+
+#[test]
+fn roots_are_told(rt: HostRuntime) -> Result<(), AllocError> {
+    let alloc = rt.alloc();
+    let (ball, along) = ("158,1.;", "124,1.,0.,0.,10.,0.,1.,0.,0.,0.,0.,1.,0.;");
+    let cases: [(&[Record], &str, &str); 6] = [
+        // A tree over two balls, and a ball alone.
+        (
+            &[
+                (158, 0, ball),
+                (158, 0, ball),
+                (180, 0, "180,3,-1,-3,1;"),
+                (158, 0, ball),
+            ],
+            "MODEL 4 READ 4 KEPT 0 NULL 0",
+            "ROOT 5 2 2\nROOT 7 1 1\n",
+        ),
+        // A solid that is named twice weighs twice, and so does one that isn't read.
+        (
+            &[(184, 0, "184,2,3,3;"), (158, 0, ball)],
+            "MODEL 2 READ 2 KEPT 0 NULL 0",
+            "ROOT 1 2 2\n",
+        ),
+        (
+            &[(110, 0, "110;"), (180, 0, "180,3,-1,-1,1;")],
+            "MODEL 2 READ 1 KEPT 1 NULL 0",
+            "ROOT 3 2 2\n",
+        ),
+        // A matrix is a level, but no solid, and neither is what isn't read.
+        (
+            &[
+                (0, 0, "0;"),
+                (110, 0, "110;"),
+                (124, 0, along),
+                (124, 5, along),
+                (158, 7, ball),
+            ],
+            "MODEL 5 READ 3 KEPT 1 NULL 1",
+            "ROOT 9 1 3\n",
+        ),
+        // An instance, which is named in its turn.
+        (
+            &[(430, 0, "430,3;"), (430, 0, "430,5;"), (158, 0, ball)],
+            "MODEL 3 READ 3 KEPT 0 NULL 0",
+            "ROOT 1 1 3\n",
+        ),
+        (
+            &[(0, 0, "0;"), (124, 0, along)],
+            "MODEL 2 READ 1 KEPT 0 NULL 1",
+            "",
+        ),
+    ];
+    for (records, rows, roots) in cases {
+        let file = file_of(&rt, alloc, records)?;
+        let want = format!(in alloc; "{rows}\nSCALE - UNITS - VERSION -\n{roots}END\n")?;
+        expect_check(&rt, alloc, file.as_slice(), Status::Done, &want)?;
+    }
+    // References that lead nowhere are refused.
+    let file = file_of(&rt, alloc, &[(158, 0, ball), (180, 0, "180,3,-1,-5,1;")])?;
+    let refused = "MODEL REFUSED Dangling 3 5\n";
+    expect_check(&rt, alloc, file.as_slice(), Status::Refused, refused)
 }
 
 #[test]
@@ -220,7 +283,7 @@ const NEVER: u32 = u32::MAX;
 const COMMANDS: [(&str, &str, &str); 2] = [
     (
         "check",
-        "MODEL 1 READ 1 KEPT 0 NULL 0\nSCALE - UNITS - VERSION -\nEND\n",
+        "MODEL 1 READ 1 KEPT 0 NULL 0\nSCALE - UNITS - VERSION -\nROOT 1 1 1\nEND\n",
         "MODEL 1 RE",
     ),
     ("replay", "LOG 0\n@1 1\n0 INSIDE\nEND\n", "LOG 0\n@1 1"),
