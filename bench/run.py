@@ -19,7 +19,9 @@ KINDS = ["block", "wedge", "cylinder", "cone", "sphere", "torus", "ellipsoid"]
 
 # The name of an input, the command, the maker and its options.
 INPUTS = [
-    ("check of 100,000 mixed entities", "check", "make_mixed.py", ["--entities", "100000", "--others"]),
+    ("check of 100,000 solids, matrices and others", "check", "make_solids.py", ["--entities", "100000"]),
+    ("a tree of 1,000 moved primitives, 10,000 points", "replay", "make_solids.py", ["--shape", "tree", "--entities", "1000", "--points", "10000"]),
+    ("10,000 solids, matrices and others, 50,000 points", "replay", "make_solids.py", ["--entities", "10000", "--points", "50000"]),
     ("90,000 spheres, 250,000 points", "replay", "make_spheres.py", ["--spheres", "90000", "--points", "250000"]),
     ("10,000 mixed primitives, 200,000 points", "replay", "make_mixed.py", ["--points", "200000"]),
 ] + [
@@ -82,7 +84,7 @@ def time_input(folder, args, name, command, maker, options):
     program = Timing("solidd", [os.path.abspath(args.program), command])
     yardstick = None
     if os.access(args.yardstick, os.X_OK):
-        yardstick = Timing("yardstick", [os.path.abspath(args.yardstick), "--stage", "3", "--engine", "plain", command])
+        yardstick = Timing("yardstick", [os.path.abspath(args.yardstick), "--stage", "4", "--engine", "plain", command])
     problem = compare(folder, program, yardstick, args.runs)
     print("%s, %.1f MB, best of %d" % (name, os.path.getsize(data) / 1e6, args.runs))
     if problem is not None:
