@@ -1,11 +1,10 @@
 #!/usr/bin/env python3
-"""make_mixed.py [--entities N] [--points M] [--kinds K,K,..] [--others] [--seed S] > FILE
+"""make_mixed.py [--entities N] [--points M] [--kinds K,K,..] [--seed S] > FILE
 
 Writes an IGES file of N entities and behind it M point questions, one a line: `@1 point E X Y Z`. The
 entities are primitives of the kinds that are named (block, wedge, cylinder, cone, sphere, torus,
-ellipsoid; all seven where none is), with axes that aren't along the coordinates. With --others every
-fifth entity is a Boolean tree, an assembly, an instance, a matrix or an entity of a type that isn't read;
-`replay` doesn't answer such a file yet, but `check` reads it. The same seed gives the same bytes.
+ellipsoid; all seven where none is), with axes that aren't along the coordinates. The same seed gives the
+same bytes.
 """
 import argparse
 import math
@@ -62,20 +61,6 @@ def primitive(rng, kind):
     return sizes + at + u + w, at, sizes[0]
 
 
-def other(rng, place):
-    """Type and record of an entity that is no primitive; references name entities before it."""
-    before = [2 * rng.randrange(place) + 1 for _ in range(4)] if place else [1] * 4
-    return rng.choice(
-        [
-            (180, "180,5,-%d,-%d,1,-%d,3;" % tuple(before[:3])),
-            (184, "184,3,%d,%d,%d,0,0,0;" % tuple(before[:3])),
-            (430, "430,%d;" % before[0]),
-            (124, "124,1.0,0.0,0.0,%s,0.0,1.0,0.0,%s,0.0,0.0,1.0,%s;" % tuple(spell(v, 3) for v in point(rng))),
-            (314, "314,50.0,60.0,70.0,%dH%s;" % (30, "x" * 30)),
-        ]
-    )
-
-
 def card(text, section, sequence):
     return "%-72s%s%7d\n" % (text, section, sequence)
 
@@ -87,7 +72,6 @@ def main():
     parser.add_argument("--entities", type=int, default=10_000)
     parser.add_argument("--points", type=int, default=0)
     parser.add_argument("--kinds", default="")
-    parser.add_argument("--others", action="store_true")
     parser.add_argument("--seed", type=int, default=1)
     options = parser.parse_args()
     rng = random.Random(options.seed)
@@ -95,15 +79,11 @@ def main():
     directory, params, places = [], [], []
     for place in range(options.entities):
         number = 2 * place + 1
-        if options.others and place % 5 == 4:
-            kind, record = other(rng, place)
-            places.append(None)
-        else:
-            name = kinds[place % len(kinds)]
-            values, at, size = primitive(rng, name)
-            kind = TYPES[name]
-            record = "%d,%s;" % (kind, ",".join(spell(v, 9) for v in values))
-            places.append((at, size))
+        name = kinds[place % len(kinds)]
+        values, at, size = primitive(rng, name)
+        kind = TYPES[name]
+        record = "%d,%s;" % (kind, ",".join(spell(v, 9) for v in values))
+        places.append((at, size))
         lines = [record[i : i + 64] for i in range(0, len(record), 64)]
         first = len(params) + 1
         for text in lines:
@@ -118,9 +98,8 @@ def main():
     for sequence, text in enumerate(params, 1):
         out.write(card(text, "P", sequence))
     out.write(card("S%7dG%7dD%7dP%7d" % (1, 1, len(directory), len(params)), "T", 1))
-    asked = [i for i, where in enumerate(places) if where]
     for _ in range(options.points):
-        i = rng.choice(asked)
+        i = rng.randrange(len(places))
         at, size = places[i]
         where = [c + rng.uniform(-1.2, 1.2) * size for c in at]
         out.write("@1 point %d %s\n" % (2 * i + 1, " ".join(spell(c, 6) for c in where)))
