@@ -13,15 +13,20 @@ import sys
 ROOT = os.path.dirname(os.path.dirname(os.path.abspath(__file__)))
 
 
-def main():
+def arguments(description):
+    """The program, and the folder with the files."""
     parser = argparse.ArgumentParser(
-        usage=argparse.SUPPRESS, description=__doc__, formatter_class=argparse.RawDescriptionHelpFormatter
+        usage=argparse.SUPPRESS, description=description, formatter_class=argparse.RawDescriptionHelpFormatter
     )
     parser.add_argument("program", nargs="?", default=os.path.join(ROOT, "crates/solidd/out/solidd"))
     parser.add_argument(
         "--folder", default=os.environ.get("SOLIDD_REAL_FILES", os.path.join(ROOT, "../shared/real"))
     )
-    args = parser.parse_args()
+    return parser.parse_args()
+
+
+def main():
+    args = arguments(__doc__)
     files = sorted(glob.glob(os.path.join(args.folder, "*.ig*s")))
     if not files:
         print("no files at %s: skipped" % args.folder)

@@ -6,13 +6,13 @@ independent classifier. For each file NAME.E.truth, with lines `X Y Z IN` or `X 
 NAME.igs. Fails where an answer is neither INSIDE for IN and OUTSIDE for OUT. Skips where the folder isn't
 there. Its path comes from --folder, else from SOLIDD_REAL_FILES.
 """
-import argparse
 import glob
 import os
 import subprocess
 import sys
 
-ROOT = os.path.dirname(os.path.dirname(os.path.abspath(__file__)))
+from real_files import arguments
+
 WANTED = {"IN": "0 INSIDE", "OUT": "0 OUTSIDE"}
 
 
@@ -26,14 +26,7 @@ def answers(program, path, entity, points):
 
 
 def main():
-    parser = argparse.ArgumentParser(
-        usage=argparse.SUPPRESS, description=__doc__, formatter_class=argparse.RawDescriptionHelpFormatter
-    )
-    parser.add_argument("program", nargs="?", default=os.path.join(ROOT, "crates/solidd/out/solidd"))
-    parser.add_argument(
-        "--folder", default=os.environ.get("SOLIDD_REAL_FILES", os.path.join(ROOT, "../shared/real"))
-    )
-    args = parser.parse_args()
+    args = arguments(__doc__)
     truths = sorted(glob.glob(os.path.join(args.folder, "*.truth")))
     if not truths:
         print("no truths at %s: skipped" % args.folder)
