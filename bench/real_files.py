@@ -25,14 +25,18 @@ def arguments(description):
     return parser.parse_args()
 
 
+def found(folder, pattern):
+    """The files of a folder whose names fit the pattern, in order; says so where there are none."""
+    files = sorted(glob.glob(os.path.join(folder, pattern)))
+    if not files:
+        print("no %s at %s: skipped" % (pattern, folder))
+    return files
+
+
 def main():
     args = arguments(__doc__)
-    files = sorted(glob.glob(os.path.join(args.folder, "*.ig*s")))
-    if not files:
-        print("no files at %s: skipped" % args.folder)
-        return
     refused = 0
-    for path in files:
+    for path in found(args.folder, "*.ig*s"):
         with open(path, "rb") as source:
             done = subprocess.run([os.path.abspath(args.program), "check"], stdin=source, stdout=subprocess.PIPE)
         refused += done.returncode != 0

@@ -2,16 +2,15 @@
 """real_points.py [PROGRAM] [--folder PATH]
 
 Asks PROGRAM for points on solids of files by a real CAD kernel, and compares the answers with those of an
-independent classifier. For each file NAME.E.truth, with lines `X Y Z IN` or `X Y Z OUT`, the points are asked on entity E of
-NAME.igs. Fails where an answer is neither INSIDE for IN and OUTSIDE for OUT. Skips where the folder isn't
-there. Its path comes from --folder, else from SOLIDD_REAL_FILES.
+independent classifier. For each file NAME.E.truth, with lines `X Y Z IN` or `X Y Z OUT`, the points are
+asked on entity E of NAME.igs. Fails where an answer isn't INSIDE for IN and OUTSIDE for OUT. Skips where
+the folder isn't there. Its path comes from --folder, else from SOLIDD_REAL_FILES.
 """
-import glob
 import os
 import subprocess
 import sys
 
-from real_files import arguments
+from real_files import arguments, found
 
 WANTED = {"IN": "0 INSIDE", "OUT": "0 OUTSIDE"}
 
@@ -27,16 +26,13 @@ def answers(program, path, entity, points):
 
 def main():
     args = arguments(__doc__)
-    truths = sorted(glob.glob(os.path.join(args.folder, "*.truth")))
-    if not truths:
-        print("no truths at %s: skipped" % args.folder)
-        return
     wrong = 0
-    for truth in truths:
+    for truth in found(args.folder, "*.truth"):
         name, entity, _ = os.path.basename(truth).split(".")
         with open(truth) as source:
             lines = [line.split() for line in source]
-        got = answers(os.path.abspath(args.program), os.path.join(args.folder, name + ".igs"), entity, [line[:3] for line in lines])
+        path = os.path.join(args.folder, name + ".igs")
+        got = answers(os.path.abspath(args.program), path, entity, [line[:3] for line in lines])
         wanted = [WANTED[line[3]] for line in lines]
         good = sum(a == b for a, b in zip(wanted, got)) if len(got) == len(wanted) else 0
         wrong += len(wanted) - good
