@@ -15,8 +15,8 @@ same_vector : (a b : Vec3) → a.x ≡ b.x → a.y ≡ b.y → a.z ≡ b.z → a
 same_vector a b x y z = λ i. record { x = x i; y = y i; z = z i }
 
 -- ---- sums of products
-behind : (a x d : ℤ) → (a *ℤ x) *ℤ d ≡ x *ℤ (a *ℤ d)
-behind = by_diff3 (λ (a x d : ℤ). (a *ℤ x) *ℤ d ≡ x *ℤ (a *ℤ d)) (λ (a b c d e f : ℕ). simp diffs (diff-same _ _ _ _ (omega arith)))
+after : (a x d : ℤ) → (a *ℤ x) *ℤ d ≡ x *ℤ (a *ℤ d)
+after = by_diff3 (λ (a x d : ℤ). (a *ℤ x) *ℤ d ≡ x *ℤ (a *ℤ d)) (λ (a b c d e f : ℕ). simp diffs (diff-same _ _ _ _ (omega arith)))
 
 past : (a n d : ℤ) → (a *ℤ n) *ℤ d ≡ (a *ℤ d) *ℤ n
 past = by_diff3 (λ (a n d : ℤ). (a *ℤ n) *ℤ d ≡ (a *ℤ d) *ℤ n) (λ (a b c d e f : ℕ). simp diffs (diff-same _ _ _ _ (omega arith)))
@@ -36,9 +36,9 @@ times_one z = omega (arith, ints)
 spread : (a b c x y z d : ℤ) → (a *ℤ x +ℤ b *ℤ y +ℤ c *ℤ z) *ℤ d ≡ x *ℤ (a *ℤ d) +ℤ y *ℤ (b *ℤ d) +ℤ z *ℤ (c *ℤ d)
 spread a b c x y z d =
     let s = sum_times (a *ℤ x) (b *ℤ y) (c *ℤ z) d in
-    let e = behind a x d in
-    let f = behind b y d in
-    let g = behind c z d in
+    let e = after a x d in
+    let f = after b y d in
+    let g = after c z d in
     omega (arith, lines)
 
 dot_comm : (a b : Vec3) → dot a b ≡ dot b a

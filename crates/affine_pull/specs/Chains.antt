@@ -1,4 +1,4 @@
--- Chains of matrices, each of which names the one behind it, and places moved by them and carried back through them.
+-- Chains of matrices, each of which names the one after it, and places moved by them and carried back through them.
 use Rattle.std.specs.Prelude.{ℕ, zero, suc, ◌*◌, List, [], ◌∷◌}
 use Rattle.solid_base.specs.declared.entities.Entity.{Entity}
 use Rattle.solid_base.specs.declared.geometry.Vec3.{Vec3}
@@ -13,7 +13,7 @@ use Rattle.affine_pull.specs.Matrices.{moved, pulled, pulled_spans}
 
 -- ---- chains
 
--- IGES 5.3, type 124: a matrix is applied first, and behind it the chain of the matrix that it names. What is no matrix that is read has no chain
+-- IGES 5.3, type 124: a matrix is applied first, and after it the chain of the matrix that it names. What is no matrix that is read has no chain
 abbrev pub chain_step : (ℕ → List Affine) → Row → List Affine
 chain_step chain (row.Matrix form affine next) = affine ∷ chain next
 chain_step chain _ = []
@@ -29,7 +29,7 @@ chain_of rows m = chain_within most_levels rows m
 
 -- ---- places
 
--- solidd's own: each matrix has a unit of steps, so behind a chain `parts_through m chain` parts are one step
+-- solidd's own: each matrix has a unit of steps, so after a chain `parts_through m chain` parts are one step
 abbrev pub parts_through : ℕ → List Affine → ℕ
 parts_through m [] = m
 parts_through m (a ∷ chain) = unit * parts_through m chain

@@ -12,7 +12,7 @@ use Rattle.boolean_tree.proofs.Readings.{reading, reading-post_order, reading-sh
 not_both : (items : List Item) (n : ℕ) → reading items [] 2 ≡ Err n → ¬ IsPostOrder items
 not_both items n fault (t, e) = let both : Ok t ≡ Err n = sym (reading-post_order t) ∙ ap (λ xs. reading xs [] 2) (sym e) ∙ fault in cc
 
--- the union of a tree with those behind it
+-- the union of a tree with those after it
 abbrev union_of : Tree → List Tree → Tree
 union_of t [] = t
 union_of t (u ∷ us) = combination union t (union_of u us)
@@ -26,7 +26,7 @@ trees_begin t (u ∷ us) =
     let glue : (post_order t ++ others) ++ (more.0 ++ item.Join ∷ []) ≡ post_order t ++ (others ++ more.0) ++ item.Join ∷ [] = simp append_assoc in
     (more.0 ++ item.Join ∷ [], glue ∙ ap (λ items. post_order t ++ items ++ item.Join ∷ []) more.1)
 
--- a tree begins with any whole trees, one behind the other
+-- a tree begins with any whole trees, one after the other
 trees_are_front : (ts : List Tree) → IsFront (flat_map post_order ts)
 trees_are_front [] = (item.Operand 0 ∷ [], (operand 0, refl))
 trees_are_front (t ∷ us) = let more = trees_begin t us in (more.0, (union_of t us, more.1))

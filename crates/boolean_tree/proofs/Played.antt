@@ -224,7 +224,7 @@ folding_end items leaves base stack next v all h =
       spare = sym (ap (λ s. stack.spare + length s) is) ∙ h.spare;
     }
 
--- behind the last item no rest is left
+-- after the last item no rest is left
 pub at_end : (items : List Item) (leaves : List Verdict) (base stack : Stack) (at next : ℕ) → length items ≤ at → Folding items leaves base stack (drop at items) next → Folding items leaves base stack [] next
 at_end items leaves base stack at next done h = subst (λ r. Folding items leaves base stack r next) (drop_of_length-le items done) h
 

@@ -6,7 +6,7 @@ use Rattle.solid_base.specs.declared.solids.Item.TheVariants as item
 use Rattle.solid_base.specs.Trees.{Operation, union, intersection, difference, Tree, operand, combination, item_of, post_order, IsPostOrder}
 use Rattle.boolean_tree.specs.Faults.{LacksOperands, LeavesOthers, IsFault}
 
--- the trees behind the last item: one, or a fault at parameter 1
+-- the trees after the last item: one, or a fault at parameter 1
 abbrev ending : List Tree → Result Tree ℕ
 ending [] = Err 1
 ending (t ∷ []) = Ok t

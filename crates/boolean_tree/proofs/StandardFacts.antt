@@ -17,7 +17,7 @@ one_operand = (operand 1, refl)
 pub operation_alone : LacksOperands 2 (Join ∷ [])
 operation_alone = record { trees = []; operation = union; rest = []; few = omega arith; spelt = refl; place = refl }
 
--- an operation behind one operand is at fault, at parameter 3, whatever stands behind it
+-- an operation after one operand is at fault, at parameter 3, whatever stands after it
 pub operation_on_one : (rest : List Item) → LacksOperands 3 (Operand 1 ∷ Less ∷ rest)
 operation_on_one rest = record { trees = operand 1 ∷ []; operation = difference; rest = rest; few = omega arith; spelt = refl; place = refl }
 

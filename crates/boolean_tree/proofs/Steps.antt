@@ -44,7 +44,7 @@ combined o b a ts =
     let glue : ((front ++ post_order a) ++ post_order b) ++ item_of o ∷ [] ≡ front ++ (post_order a ++ post_order b ++ item_of o ∷ []) = simp append_assoc in
     ap (λ items. items ++ item_of o ∷ []) two ∙ glue ∙ sym (one_more (combination o a b) ts)
 
--- two trees or more, and an operation behind them
+-- two trees or more, and an operation after them
 operation_on : (items : List Item) (at count : ℕ) (o : Operation) (ts : List Tree) → take (at + 1) items ≡ flat_map post_order (reverse ts) ++ item_of o ∷ [] → length ts ≡ count → 2 ≤ count → AreTrees items (at + 1) (count - 1)
 operation_on items at count o [] spelt number two = absurd (omega (arith, number, two))
 operation_on items at count o (b ∷ []) spelt number two = absurd (omega (arith, number, two))
@@ -86,7 +86,7 @@ lacks items at count d o room is few h =
       place = omega (arith, long);
     }
 
--- behind the last item the trees are all of the list
+-- after the last item the trees are all of the list
 all_spelt : (items : List Item) (at count : ℕ) → length items ≤ at → (h : AreTrees items at count) → items ≡ flat_map post_order (reverse h.trees)
 all_spelt items at count done h = sym (take_all at items done) ∙ h.spelt
 

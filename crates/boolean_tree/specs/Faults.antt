@@ -12,7 +12,7 @@ pub record LacksOperands (n : ℕ) (items : List Item) : Type 0 where
   pub spelt : items ≡ flat_map post_order trees ++ item_of operation ∷ rest
   pub place : n ≡ length (flat_map post_order trees) + 2
 
--- solidd's own: the items are whole trees in post-order, one behind the other, but none or several of them
+-- solidd's own: the items are whole trees in post-order, one after the other, but none or several of them
 pub record LeavesOthers (items : List Item) : Type 0 where
   pub trees : List Tree
   pub not_one : length trees ≢ 1

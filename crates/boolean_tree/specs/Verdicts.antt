@@ -81,7 +81,7 @@ abbrev pub first : List Verdict → Verdict
 first [] = outside
 first (v ∷ vs) = v
 
--- solidd's own: the verdict on a tree, from those on its operands in order: the left tree takes as many of them as it has operands, the right tree those behind
+-- solidd's own: the verdict on a tree, from those on its operands in order: the left tree takes as many of them as it has operands, the right tree those after
 abbrev pub folded : Tree → List Verdict → Verdict
 folded (operand entity) leaves = first leaves
 folded (combination o a b) leaves = verdict_of o (folded a leaves) (folded b (drop (operand_count a) leaves))

@@ -11,7 +11,7 @@ pub fn spells_one_tree()
     ensures { (tree other : Tree) → post_order tree ≡ post_order other → tree ≡ other }
 {}
 
-/// An operation that lacks operands is the first item behind which no tree is possible: some tree
+/// An operation that lacks operands is the first item after which no tree is possible: some tree
 /// begins with the items before it, and none with these and the operation.
 pub fn ends_the_last_front()
     ensures { (n : ℕ) (items : List Item) → LacksOperands n items →

@@ -32,7 +32,7 @@ pub two_decide : (a b c : Sign) → both_signs a b ≡ Negative → Outside ≡ 
 unfolding both_signs sign_class
 two_decide a b c e = let t = three_class a b c in rw e at t
 
--- a pair behind a sign is joined to it one by one
+-- a pair after a sign is joined to it one by one
 pair_class : (a b c : Sign) (rest : List Sign) → sign_class (both_signs a (both_signs b c) ∷ rest) ≡ sign_class (a ∷ b ∷ c ∷ rest)
 pair_class a b c rest =
     ap (λ (s : Sign). sign_class (s ∷ rest)) (both_assoc a b c) ∙ both_class (both_signs a b) c rest ∙ both_class a b (c ∷ rest)

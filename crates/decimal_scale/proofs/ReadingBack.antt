@@ -48,12 +48,12 @@ last_spelt (suc count) n h =
     let p = pushed (n / 10) (n % 10) (last_digits count (n / 10)) (omega arith) i.0 i.1 in
     (p.0, p.1 ∙ omega arith)
 
--- ---- the zeros behind
+-- ---- the zeros after
 abbrev is_zero : ℕ → Bool
 is_zero b = b == 48
 
-zero_behind : (ds : List ℕ) (k : ℕ) → length ds - suffix_len is_zero ds ≤ k → k < length ds → get_or ds k 0 ≡ 48
-zero_behind ds k h l =
+zero_after : (ds : List ℕ) (k : ℕ) → length ds - suffix_len is_zero ds ≤ k → k < length ds → get_or ds k 0 ≡ 48
+zero_after ds k h l =
     let at = length ds - 1 - k in
     let most = suffix_len-le-length is_zero ds in
     let test : is_zero (get_or (reverse ds) at 0) ≡ true = prefix_len_passes is_zero (reverse ds) at 0 (omega arith) in
@@ -93,7 +93,7 @@ reads_back value h =
     let n = length-last_digits 12 part in
     let kept : length (take k full) ≡ k = length-take-le k full (omega arith) in
     let rest : length (drop k full) ≡ 12 - k = length-drop k full ∙ ap (λ (i : ℕ). i - k) n in
-    let none = number_of_zeros (drop k full) (λ j l. get_or-drop k full j 0 ∙ zero_behind full (k + j) (omega arith) (omega arith)) in
+    let none = number_of_zeros (drop k full) (λ j l. get_or-drop k full j 0 ∙ zero_after full (k + j) (omega arith) (omega arith)) in
     record {
       number = record { sign = sign; whole = ws; fraction = Some (take k full); exponent = None };
       lawful = record { whole = whole.0; decimals = digits_take k full all; some = omega (arith, kept); exponent = tt };

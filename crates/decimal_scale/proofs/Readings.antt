@@ -5,7 +5,7 @@ use Rattle.std.proofs.lemmas.Bool.Decides.{nat_tests}
 use Rattle.std.proofs.lemmas.Int.{ints}
 use Rattle.std.proofs.lemmas.List.Folds.{length-prefix_len}
 use Rattle.solid_base.specs.Digits.{is_digit, number_of}
-use Rattle.solid_base.specs.Spelling.{Sign, NoSign, Plus, Minus, Number, decimals_of, IsNumeral, sign_of, behind_sign, digit_count, behind_digits, is_exponent, Spelling, Empty, Whole, Real, class_of, class_behind, exponent_of, number_behind, number_of_text}
+use Rattle.solid_base.specs.Spelling.{Sign, NoSign, Plus, Minus, Number, decimals_of, IsNumeral, sign_of, after_sign, digit_count, after_digits, is_exponent, Spelling, Empty, Whole, Real, class_of, class_with_rest, exponent_of, number_with_rest, number_of_text}
 use Rattle.solid_base.specs.Decimal.{mantissa_of, raised_by, lowered_by, with_sign, IsReading, nearest}
 use Rattle.solid_base.proofs.Numerals.{number_again, number_sign, whole_is_spelt, real_is_spelt, whole_is_read, real_is_read}
 use Rattle.solid_base.proofs.Decimals.{nearest_unique, nearest_is, reading_exists, reading_numeral}
@@ -20,27 +20,27 @@ end_empty m count [] r h is = is
 end_empty m count (b ∷ bs) r h is = absurd (omega arith)
 
 pub size_empty : (sign : Sign) (whole rest : List ℕ) (r : Result ℕ RealFault) → length rest < 1 → 0 < length whole → r ≡ in_range (nearest (number_of (whole ++ [])) (12 + 0) (0 + 0))
-    → r ≡ sized (class_behind (length whole) rest) (number_behind sign whole rest)
+    → r ≡ sized (class_with_rest (length whole) rest) (number_with_rest sign whole rest)
 size_empty sign whole [] r h some is = let z : (length whole == 0) ≡ false = grind arith in rw z is
 size_empty sign whole (b ∷ bs) r h some is = absurd (omega arith)
 
-read_parts : (text : List ℕ) → reading_of text ≡ signed (sign_of text) (sized (class_behind (length (take (digit_count (behind_sign text)) (behind_sign text))) (behind_digits (behind_sign text))) (number_of_text text))
+read_parts : (text : List ℕ) → reading_of text ≡ signed (sign_of text) (sized (class_with_rest (length (take (digit_count (after_sign text)) (after_sign text))) (after_digits (after_sign text))) (number_of_text text))
 unfolding reading_of
 read_parts [] = refl
 read_parts (b ∷ bs) =
-    let digits = behind_sign (b ∷ bs) in
-    ap (λ (k : ℕ). signed (sign_of (b ∷ bs)) (sized (class_behind k (behind_digits digits)) (number_of_text (b ∷ bs)))) (sym (length-prefix_len is_digit digits))
+    let digits = after_sign (b ∷ bs) in
+    ap (λ (k : ℕ). signed (sign_of (b ∷ bs)) (sized (class_with_rest k (after_digits digits)) (number_of_text (b ∷ bs)))) (sym (length-prefix_len is_digit digits))
 
--- a text cut behind its sign and its digits
-pub read_is : (text digits whole rest : List ℕ) (count : ℕ) (r : Result ℕ RealFault) → digits ≡ behind_sign text → count ≡ digit_count digits → whole ≡ take count digits → rest ≡ drop count digits
-    → r ≡ sized (class_behind (length whole) rest) (number_behind (sign_of text) whole rest) → reading_of text ≡ signed (sign_of text) r
+-- a text cut after its sign and its digits
+pub read_is : (text digits whole rest : List ℕ) (count : ℕ) (r : Result ℕ RealFault) → digits ≡ after_sign text → count ≡ digit_count digits → whole ≡ take count digits → rest ≡ drop count digits
+    → r ≡ sized (class_with_rest (length whole) rest) (number_with_rest (sign_of text) whole rest) → reading_of text ≡ signed (sign_of text) r
 read_is text digits whole rest count r h i j k is =
-    let n : count ≡ digit_count (behind_sign text) = i ∙ ap digit_count h in
-    let front : whole ≡ take (digit_count (behind_sign text)) (behind_sign text) = j ∙ ap (λ (m : ℕ). take m digits) n ∙ ap (take (digit_count (behind_sign text))) h in
-    let back : rest ≡ behind_digits (behind_sign text) = k ∙ ap (λ (m : ℕ). drop m digits) n ∙ ap (drop (digit_count (behind_sign text))) h in
+    let n : count ≡ digit_count (after_sign text) = i ∙ ap digit_count h in
+    let front : whole ≡ take (digit_count (after_sign text)) (after_sign text) = j ∙ ap (λ (m : ℕ). take m digits) n ∙ ap (take (digit_count (after_sign text))) h in
+    let back : rest ≡ after_digits (after_sign text) = k ∙ ap (λ (m : ℕ). drop m digits) n ∙ ap (drop (digit_count (after_sign text))) h in
     read_parts text
-    ∙ ap (λ (w : List ℕ). signed (sign_of text) (sized (class_behind (length w) (behind_digits (behind_sign text))) (number_behind (sign_of text) w (behind_digits (behind_sign text))))) (sym front)
-    ∙ ap (λ (t : List ℕ). signed (sign_of text) (sized (class_behind (length whole) t) (number_behind (sign_of text) whole t))) (sym back)
+    ∙ ap (λ (w : List ℕ). signed (sign_of text) (sized (class_with_rest (length w) (after_digits (after_sign text))) (number_with_rest (sign_of text) w (after_digits (after_sign text))))) (sym front)
+    ∙ ap (λ (t : List ℕ). signed (sign_of text) (sized (class_with_rest (length whole) t) (number_with_rest (sign_of text) whole t))) (sym back)
     ∙ ap (signed (sign_of text)) (sym is)
 
 pub is_fault : (r : Result ℤ RealFault) (fault : RealFault) → IsErrAnd r (λ e. e ≡ fault) → r ≡ Err fault

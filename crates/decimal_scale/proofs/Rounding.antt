@@ -41,7 +41,7 @@ nearest_exact m down t =
     let e = pow-add 10 down t in
     nearest_unique m (down + t) down _ _ (nearest_is m (down + t) down) (record { above = rw e (omega arith); below = rw e (omega arith) })
 
--- x is what the kept digits spell, d the digit behind them, s its place and r what is behind it
+-- x is what the kept digits spell, d the digit after them, s its place and r what is after it
 rounded_up : (x d s r t : ℕ) → t ≡ s * 10 → r < s → 5 ≤ d → d ≤ 9 → (2 * ((x + 1) * t) ≤ 2 * ((x * t + (d * s + r)) * 1) + t) × (2 * ((x * t + (d * s + r)) * 1) < 2 * ((x + 1) * t) + t)
 rounded_up x d s r t e h i k =
     let m : 5 * s ≤ d * s = mul-le-mul i (omega arith) in
@@ -99,7 +99,7 @@ scaled_near number n exponent e r h near same is =
     let s : exponent ≡ e = omega arith in
     subst (λ (k : ℕ). r ≡ min (n * 10 ^ k) past) s (scaled_over number n (10 ^ exponent) r h (ten_positive exponent) is)
 
--- ---- `rounded`: digits behind a number that is cut at the bound
+-- ---- `rounded`: digits after a number that is cut at the bound
 step_past : (n m b : ℕ) → min n past ≡ min m past → min (n * 10 + (b - 48)) past ≡ min (m * 10 + (b - 48)) past
 step_past n m b h = omega arith
 
@@ -110,7 +110,7 @@ continued_past n m (b ∷ bs) h = continued_past (n * 10 + (b - 48)) (m * 10 + (
 pub continued_is : (start : ℕ) (before digits : List ℕ) → start ≡ min (number_of before) past → min (number_after start digits) past ≡ min (number_of (before ++ digits)) past
 continued_is start before digits h = continued_past start (number_of before) digits (omega arith) ∙ ap (λ (n : ℕ). min n past) (sym (fold-append (λ n b. n * 10 + (b - 48)) 0 before digits))
 
--- the digits, cut behind the first k of them
+-- the digits, cut after the first k of them
 spelt_cut : (before digits rest : List ℕ) (k : ℕ) → k < length digits
     → number_of (before ++ (digits ++ rest)) ≡ number_of (before ++ take k digits) * 10 ^ suc (length (drop (suc k) digits ++ rest)) + ((get_or digits k 0 - 48) * 10 ^ length (drop (suc k) digits ++ rest) + number_of (drop (suc k) digits ++ rest))
 spelt_cut before digits rest k h =

@@ -36,9 +36,9 @@ decimal-unit count part h k =
     let most : 10 ^ count ≤ 10 ^ 15 = power_at_least count 15 h in
     decimal_by_steps IsUnit unit_digit unit_more (10 ^ count + part) (omega arith) count part refl k
 
--- behind the digit 1 stand the decimals
-pub behind_unit : (text : List ℕ) (unit part places : ℕ) → unit ≡ 10 ^ places → places ≤ 15 → part < unit → text ≡ decimal (unit + part) → (length text ≡ suc places) × (take (length text - 1) (drop 1 text) ≡ last_digits places part)
-behind_unit text unit part places u few less is =
+-- after the digit 1 stand the decimals
+pub after_unit : (text : List ℕ) (unit part places : ℕ) → unit ≡ 10 ^ places → places ≤ 15 → part < unit → text ≡ decimal (unit + part) → (length text ≡ suc places) × (take (length text - 1) (drop 1 text) ≡ last_digits places part)
+after_unit text unit part places u few less is =
     let digits = last_digits places part in
     let e : text ≡ 49 ∷ digits = is ∙ ap (λ (n : ℕ). decimal (n + part)) u ∙ decimal-unit places part few (omega arith) in
     let n : length text ≡ suc places = ap (λ (t : List ℕ). length t) e ∙ ap suc (length-last_digits places part) in

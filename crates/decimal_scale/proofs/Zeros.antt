@@ -1,4 +1,4 @@
--- How many digits are left without the zeros behind them, digit by digit.
+-- How many digits are left without the zeros after them, digit by digit.
 use Rattle.std.proofs.Common.{◌≡◌, ◌≢◌, ℕ, zero, suc, ◌+◌, ◌-◌, ◌/◌, ◌%◌, ◌^◌, ◌<◌, ◌≤◌, ◌==◌, Bool, false, cond, List, [], ◌∷◌, ◌++◌, length, max, refl, sym, ap, subst, ◌∙◌, arith, decimal, length-append, length-take-le}
 use Rattle.std.specs.List.{suffix_len, prefix_len}
 use Rattle.std.proofs.Math.Nat.{pow-suc}
@@ -7,7 +7,7 @@ use Rattle.std.proofs.lemmas.Fmt.{decimal_step, decimal_digit}
 use Rattle.decimal_scale.specs.Writing.{last_digits, without_zeros}
 use Rattle.decimal_scale.proofs.Texts.{length-last_digits}
 
--- a digit more behind
+-- a digit more after
 suffix_more : (digits : List ℕ) (b : ℕ) → suffix_len (λ b. b == 48) (digits ++ b ∷ []) ≡ cond (b == 48) (1 + suffix_len (λ b. b == 48) digits) 0
 suffix_more digits b = ap (prefix_len (λ b. b == 48)) (reverse-append digits (b ∷ []))
 
@@ -17,7 +17,7 @@ kept_length digits some =
     let within : max 1 (length digits - n) ≤ length digits = omega arith in
     length-take-le (max 1 (length digits - n)) digits within
 
--- a zero behind is cut
+-- a zero after is cut
 pub one_less : (count n : ℕ) → 0 < count → n % 10 ≡ 0 → length (without_zeros (last_digits (suc count) n)) ≡ length (without_zeros (last_digits count (n / 10)))
 unfolding last_digits
 one_less count n some tens =
@@ -57,7 +57,7 @@ some_digit : (count n : ℕ) → 0 < n → n < 10 ^ count → 0 < count
 some_digit zero n some less = absurd (omega arith)
 some_digit (suc count) n some less = omega arith
 
--- a zero behind is cut
+-- a zero after is cut
 pub one_cut : (count n : ℕ) → 0 < n → n % 10 ≡ 0 → n < 10 ^ count → (0 < count) × IsCut count n (count - 1) (n / 10)
 one_cut zero n some tens less = absurd (omega arith)
 one_cut (suc count) n some tens less =
@@ -67,7 +67,7 @@ one_cut (suc count) n some tens less =
     let below : n / 10 < 10 ^ count = omega (arith, power, less) in
     (omega arith, rw back (record { some = rest; less = below; kept = sym (one_less count n (some_digit count (n / 10) rest below) tens) }))
 
--- three zeros behind are cut
+-- three zeros after are cut
 pub three_cut : (count n : ℕ) → 0 < n → n % 1000 ≡ 0 → n < 10 ^ count → (3 ≤ count) × IsCut count n (count - 3) (n / 1000)
 three_cut count n some thousands less =
     let (p, a) = one_cut count n some (omega (arith, thousands)) less in

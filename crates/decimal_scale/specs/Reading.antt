@@ -11,7 +11,7 @@ use Rattle.decimal_scale.specs.declared.faults.RealFault.TheVariants.{BadReal, T
 abbrev pub past : ℕ
 past = 10 ^ 18 + 1
 
--- digits behind a number
+-- digits after a number
 abbrev pub number_after : ℕ → List ℕ → ℕ
 number_after n digits = fold (λ n b. n * 10 + (b - 48)) n digits
 

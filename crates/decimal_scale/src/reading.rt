@@ -1,6 +1,6 @@
 ghost use Rattle.std.specs.Prelude.{◌≡◌, ℕ, ℤ, ◌+◌, ◌^◌, ◌<◌, ◌≤◌, ◌∷◌, ◌++◌, ◌↔◌, min, length, cond, unsigned_abs};
 ghost use Rattle.solid_base.specs.Digits.{number_of};
-ghost use Rattle.solid_base.specs.Spelling.{Sign, IsNumeral, sign_of, behind_sign, is_whole, is_exponent, class_behind, exponent_of, number_behind};
+ghost use Rattle.solid_base.specs.Spelling.{Sign, IsNumeral, sign_of, after_sign, is_whole, is_exponent, class_with_rest, exponent_of, number_with_rest};
 ghost use Rattle.solid_base.specs.Decimal.{IsReading, nearest, raised_by, lowered_by, with_sign};
 ghost use Rattle.decimal_scale.specs.Reading.{past, is_minus, in_range, sized, reading_of, AllDigits};
 
@@ -53,11 +53,11 @@ fn is_negative(text: &[u8]) -> bool
     matches!(text, [b'-', ..])
 }
 
-/// The magnitude of a number, of which these are the whole digits and the text behind them.
+/// The magnitude of a number, of which these are the whole digits and the text after them.
 fn read_size(whole: &[u8], rest: &[u8]) -> Result<u64, RealFault>
     requires { AllDigits whole.now }
     ensures { (sign : Sign) → result
-        ≡ sized (class_behind (length whole.now) rest.now) (number_behind sign whole.now rest.now) }
+        ≡ sized (class_with_rest (length whole.now) rest.now) (number_with_rest sign whole.now rest.now) }
 {
     match rest {
         [] if whole.len() == 0 => Err(RealFault::BadReal),
@@ -68,11 +68,11 @@ fn read_size(whole: &[u8], rest: &[u8]) -> Result<u64, RealFault>
     }
 }
 
-/// The magnitude of a number, of which these are the whole digits and the text behind the point.
+/// The magnitude of a number, of which these are the whole digits and the text after the point.
 fn read_fraction(whole: &[u8], rest: &[u8]) -> Result<u64, RealFault>
     requires { AllDigits whole.now }
     ensures { (sign : Sign) → result
-        ≡ sized (class_behind (length whole.now) (46 ∷ rest.now)) (number_behind sign whole.now (46 ∷ rest.now)) }
+        ≡ sized (class_with_rest (length whole.now) (46 ∷ rest.now)) (number_with_rest sign whole.now (46 ∷ rest.now)) }
 {
     let count = digit_count(rest);
     if whole.len() == 0 && count == 0 {
@@ -82,8 +82,8 @@ fn read_fraction(whole: &[u8], rest: &[u8]) -> Result<u64, RealFault>
     read_end(whole, decimals, end)
 }
 
-/// The magnitude of a number, of which these are the digits before and behind the point and the text
-/// behind them.
+/// The magnitude of a number, of which these are the digits before and after the point and the text
+/// after them.
 fn read_end(whole: &[u8], decimals: &[u8], end: &[u8]) -> Result<u64, RealFault>
     requires whole { AllDigits whole.now }
     requires decimals { AllDigits decimals.now }

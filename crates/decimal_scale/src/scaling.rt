@@ -30,8 +30,8 @@ fn scaled(number: u64, exponent: u64) -> u64
     }
 }
 
-/// The number that the first digits spell, `keep` of them, behind those of `start`, rounded by the
-/// digit that follows; or `PAST` where it is larger. No digit behind that one counts.
+/// The number that the first digits spell, `keep` of them, after those of `start`, rounded by the
+/// digit that follows; or `PAST` where it is larger. No digit after that one counts.
 fn rounded(start: u64, digits: &[u8], keep: usize) -> u64
     requires start { start ≤ past }
     requires digits { AllDigits digits.now }
@@ -47,7 +47,7 @@ fn rounded(start: u64, digits: &[u8], keep: usize) -> u64
     }
 }
 
-/// The number with these digits before and behind its point, times a power of ten, rounded; or `PAST`
+/// The number with these digits before and after its point, times a power of ten, rounded; or `PAST`
 /// where it is larger.
 fn raised(whole: &[u8], decimals: &[u8], exponent: u64) -> u64
     requires whole { AllDigits whole.now }
@@ -81,7 +81,7 @@ fn lowered(whole: &[u8], exponent: u64) -> u64
     }
 }
 
-/// The magnitude in steps of the number with these digits before and behind its point and this
+/// The magnitude in steps of the number with these digits before and after its point and this
 /// exponent; or `PAST` where it is larger.
 pub fn magnitude(whole: &[u8], decimals: &[u8], is_negative: bool, exponent: u64) -> u64
     requires whole { AllDigits whole.now }

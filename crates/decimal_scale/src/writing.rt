@@ -9,7 +9,7 @@ use solid_base::Bytes;
 use std::alloc::{AllocError, Global};
 
 /// The text of `value / 10^places`: a minus sign where it is negative, the whole part, a point, and the
-/// decimals without the zeros behind them, at least one. With 12 places it is the text of `value`
+/// decimals without the zeros after them, at least one. With 12 places it is the text of `value`
 /// steps, which is read as them again.
 pub fn write_real(alloc: Global, value: i128, places: u32) -> Result<Bytes, AllocError>
     requires places { (1 ≤ places) × (places ≤ 15) }
@@ -132,7 +132,7 @@ fn decimals_length(part: u64, places: u32) -> usize
     decimals_kept(rest, count) as usize
 }
 
-/// A part of a unit and its places, without zeros behind it, three at a time.
+/// A part of a unit and its places, without zeros after it, three at a time.
 fn before_thousands(part: u64, places: u32) -> (u64, u32)
     requires some { 0 < part }
     requires part { part < 10 ^ places }
@@ -151,7 +151,7 @@ fn before_thousands(part: u64, places: u32) -> (u64, u32)
     (rest, count)
 }
 
-/// The places of a part of a unit, without the zeros behind it.
+/// The places of a part of a unit, without the zeros after it.
 fn decimals_kept(part: u64, places: u32) -> u32
     requires some { 0 < part }
     requires part { part < 10 ^ places }
@@ -168,17 +168,17 @@ fn decimals_kept(part: u64, places: u32) -> u32
     count
 }
 
-/// Digits without the zeros behind them, but at least one digit.
+/// Digits without the zeros after them, but at least one digit.
 fn significant(digits: &[u8]) -> &[u8]
     requires { 0 < length digits.now }
     ensures { result.now ≡ without_zeros digits.now }
 {
-    let count = digits.len() - zeros_behind(digits);
+    let count = digits.len() - zeros_after(digits);
     &digits[..count.max(1)]
 }
 
 /// How many zeros stand at the end.
-fn zeros_behind(digits: &[u8]) -> usize
+fn zeros_after(digits: &[u8]) -> usize
     ensures within { result ≤ length digits.now }
     ensures value { result ≡ suffix_len (λ b. b == 48) digits.now }
 {

@@ -20,7 +20,7 @@ pub reaches_on : (rows : List Entity) (e c k : ℕ) → Reaches rows e c → Rea
 reaches_on rows e c k here more = more
 reaches_on rows e c k (further {c = x} refers way) more = further refers (reaches_on rows x c k way more)
 
--- a way by at least one reference behind another way
+-- a way by at least one reference after another way
 pub reaches_leads : (rows : List Entity) (e c k : ℕ) → Reaches rows e c → Leads rows c k → Leads rows e k
 reaches_leads rows e c k here more = more
 reaches_leads rows e c k (further {c = x} refers way) more = record { next = x; refers = refers; reaches = reaches_on rows x c k way (further more.refers more.reaches) }

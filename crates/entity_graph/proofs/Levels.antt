@@ -27,7 +27,7 @@ module _ (rows : List Entity) where
       let b = greatest_same (λ c. min n (depth_within (suc n) rows c)) (depth_within n rows) refs (λ c i. fewer n (suc n) c (omega arith)) in
       omega arith
 
-  -- the depth is one level more than those below, but cut off behind the most that may be
+  -- the depth is one level more than those below, but cut off after the most that may be
   pub depth_step : (e : ℕ) → depth_of rows e ≡ min (suc most_levels) (suc (greatest (depth_of rows) (references (row_at rows e))))
   unfolding depth_of
   depth_step e = one_level most_levels e

@@ -30,7 +30,7 @@ module _ (rows : List Entity) where
   right_step measure.Opaque ready f e h = opaque_step rows f e h
 
   module _ (m : Measure) (table order : List ℕ) (present : ArePresent rows) (whole : IsWhole (places rows) order) where
-    -- the entry behind the right ones is right too
+    -- the entry after the right ones is right too
     pub right_more : (i n : ℕ) → i < length order → length table ≡ length rows → IsReady m rows
         → ((j : ℕ) → j < i → Right m rows (2 * get_or order j 0 + 1) (get_or table (get_or order j 0) 0))
         → n ≡ step m (entry table) (2 * get_or order i 0 + 1) (row_at rows (2 * get_or order i 0 + 1))

@@ -17,7 +17,7 @@ split_step {X = X} [] i x s = absurd cc
 split_step {X = X} (y ∷ xs) zero x s = let q : y ≡ x = cc in ap (λ z. z ∷ xs) q
 split_step {X = X} (y ∷ xs) (suc i) x s = ap (λ (l : List X). y ∷ l) (split_step xs i x s)
 
--- an item of a list, whatever is read behind the end
+-- an item of a list, whatever is read after the end
 pub same_default : {X : Type 0} (xs : List X) (i : ℕ) (x d : X) → i < length xs → x ≡ get_or xs i x → x ≡ get_or xs i d
 same_default {X = X} [] i x d h e = absurd (omega arith)
 same_default {X = X} (y ∷ xs) zero x d h e = e

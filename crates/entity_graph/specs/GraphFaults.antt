@@ -12,11 +12,11 @@ fault_number (fault.Cycle de) = 4
 fault_number (fault.TooDeep de) = 5
 fault_number (fault.TooHeavy de) = 6
 
--- solidd's own: the fault isn't want of memory
+-- solidd's own: the fault isn't out of memory
 abbrev pub IsOfText : GraphFault → Type 0
 IsOfText f = fault_number f ≢ 1
 
--- solidd's own: the fault's name and its numbers, blanks between them. Want of memory is never printed, and so has no words
+-- solidd's own: the fault's name and its numbers, blanks between them. Out of memory is never printed, and so has no words
 abbrev pub fault_words : GraphFault → List ℕ
 fault_words (fault.Memory e) = codes ""
 fault_words (fault.Dangling de to) = (codes "Dangling " ++ decimal de) ++ codes " " ++ decimal to

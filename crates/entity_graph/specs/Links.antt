@@ -32,7 +32,7 @@ abbrev pub start_of : ℕ → List ℕ → ℕ → ℕ
 start_of from ends zero = from
 start_of from ends (suc place) = slice_index_or ends place 0
 
--- ends one behind another, the last at the end of the list
+-- ends one after another, the last at the end of the list
 abbrev pub AreEnds : ℕ → List ℕ → ℕ → Type 0
 AreEnds from [] size = from ≡ size
 AreEnds from (end ∷ ends) size = (from ≤ end) × AreEnds end ends size

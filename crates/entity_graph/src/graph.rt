@@ -39,8 +39,8 @@ impl Graph {
     /// The graph of rows. Else the first fault of their references: each kind is looked for in all rows
     /// before the next. Dangling where one names no entity or a null one, WrongTarget where it wants a
     /// matrix and names none or the other way round, Cycle where a row reaches one that reaches itself,
-    /// TooDeep where a row has more than 64 levels, TooHeavy where it weighs more than 2^20; Memory where
-    /// memory is wanting.
+    /// TooDeep where a row has more than 64 levels, TooHeavy where it weighs more than 2^20; Memory when
+    /// out of memory.
     pub fn check(alloc: Global, rows: &Rows) -> Result<Graph, GraphFault>
         requires { length rows.now ≤ 100000 }
         ensures graph { IfOk result (λ graph. graph ≡ rows.now) }

@@ -8,8 +8,8 @@ use thiserror::Error;
 /// Why the references of a model break the rules. An entity is named by its number.
 #[derive(Clone, Copy, Debug, PartialEq, Eq, Error)]
 pub enum GraphFault {
-    /// Memory was wanting.
-    #[error("memory is wanting")]
+    /// Out of memory.
+    #[error("out of memory")]
     Memory(AllocError),
     /// The first entity names the second number, which no entity has, or a null one.
     #[error("entity {0} names {1}, which is no entity")]
@@ -53,7 +53,7 @@ impl GraphFault {
         }
     }
 
-    /// The fault as it is printed: its name and its numbers. AllocError where memory is wanting. Want of
+    /// The fault as it is printed: its name and its numbers. AllocError when out of memory. Want of
     /// memory itself is never printed.
     pub fn write_fault(&self, alloc: Global) -> Result<Bytes, AllocError>
         requires { IsOfText self.now }

@@ -102,7 +102,7 @@ fn names_the_first_fault(rt: HostRuntime) -> Result<(), AllocError> {
         (&[Use(2, 0), Ball(0)], Some(GraphFault::Dangling(1, 2))),
         (&[Null, Use(1, 0)], Some(GraphFault::Dangling(3, 1))),
         (&[Use(0, 0)], Some(GraphFault::Dangling(1, 0))),
-        // The own matrix first, then the items, and their matrices behind them.
+        // The own matrix first, then the items, and their matrices after them.
         (&[Join(&[7, 9], 11)], Some(GraphFault::Dangling(1, 11))),
         (&[Join(&[7, 9], 0)], Some(GraphFault::Dangling(1, 7))),
         (
@@ -187,7 +187,7 @@ fn measures_each_row(rt: HostRuntime) -> Result<(), AllocError> {
     Ok(())
 }
 
-/// Rows of which each names the one behind it, and a ball at the end.
+/// Rows of which each names the one after it, and a ball at the end.
 fn chain(alloc: Global, len: u32) -> Result<Rows, AllocError>
     requires { len ≤ 1000 }
 {

@@ -182,7 +182,7 @@ impl Links {
         part(&self.items, start_at(&self.ends, place), self.ends[place])
     }
 
-    /// The place that a reference of the row at a place names; None behind its last.
+    /// The place that a reference of the row at a place names; None after its last.
     pub fn named(&self, place: u32, next: usize) -> Option<u32>
         requires { place < length self.now }
         ensures place { result ≡ slice_get (refs_at (places self.now) place) next }

@@ -79,7 +79,7 @@ impl Rule {
 }
 
 /// Reads the references of rows, each of which names an entity of the kind that is wanted. Dangling and
-/// WrongTarget where one doesn't, Memory where memory is wanting.
+/// WrongTarget where one doesn't, Memory when out of memory.
 pub fn read_links(alloc: Global, rows: Rows) -> Result<Links, GraphFault>
     requires { length rows ≤ 100000 }
     ensures links { IfOk result (λ links. links ≡ rows) }

@@ -13,7 +13,7 @@ use crate::tables::{MOST_LEVELS, MOST_WEIGHT, Measure, first_above, number_at};
 use std::alloc::Global;
 
 /// The places of rows in an order in which what a row names comes before it. Cycle where there is none,
-/// Memory where memory is wanting.
+/// Memory when out of memory.
 pub fn find_places(alloc: Global, links: &Links) -> Result<Vec<u32>, GraphFault>
     requires few { length links.now ≤ 100000 }
     requires present { ArePresent links.now }
@@ -28,8 +28,8 @@ pub fn find_places(alloc: Global, links: &Links) -> Result<Vec<u32>, GraphFault>
     }
 }
 
-/// The depth of each row, none of which is more than may be. TooDeep where one is, Memory where memory
-/// is wanting.
+/// The depth of each row, none of which is more than may be. TooDeep where one is, Memory when out
+/// of memory.
 pub fn find_depths(alloc: Global, links: &Links, order: &[u32]) -> Result<Vec<u32>, GraphFault>
     requires few { length links.now ≤ 100000 }
     requires present { ArePresent links.now }
@@ -49,8 +49,8 @@ pub fn find_depths(alloc: Global, links: &Links, order: &[u32]) -> Result<Vec<u3
     }
 }
 
-/// The weight of each row, none of which is more than may be. TooHeavy where one is, Memory where memory
-/// is wanting.
+/// The weight of each row, none of which is more than may be. TooHeavy where one is, Memory when out
+/// of memory.
 pub fn find_weights(alloc: Global, links: &Links, order: &[u32]) -> Result<Vec<u32>, GraphFault>
     requires few { length links.now ≤ 100000 }
     requires present { ArePresent links.now }

@@ -36,7 +36,7 @@ bits_below z m p q = elim (cases_lt m 125) [ inl l ↦ l | inr l ↦ (let k : 2 
 pub short_below : (z m : ℕ) → z < 2 ^ m → m ≤ 62 → z < 2 ^ 62
 short_below z m p q = let k : 2 ^ m ≤ 2 ^ 62 = pow_mono q in omega arith
 
--- what is left behind 2 s bits has 62 bits
+-- what is left after 2 s bits has 62 bits
 pub leading_below : (z m s : ℕ) → z < 2 ^ m → m ≤ 62 + 2 * s → z / 2 ^ (2 * s) < 2 ^ 62
 leading_below z m s p q = let k : 2 ^ m ≤ 2 ^ (62 + 2 * s) = pow_mono q in shr_below z 62 (2 * s) (omega arith)
 

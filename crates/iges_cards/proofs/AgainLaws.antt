@@ -54,12 +54,12 @@ runs next (x ∷ xs) k text rest before counts cards place other again may count
     let here : card_in before counts (line_of first) ≡ Ok (next, columns) = ap (card_in before counts) (line_again first is.line is.is_line) ∙ card_again before counts next columns is.line
     (record { columns_of = is.numbered.columns_of; follows = may (omega arith); letter = is.numbered.letter; sequence = subst (λ n. IsNumber n (drop 73 columns)) (sym count) is.numbered.sequence }) in
     let next_count : count_of (one_more next counts) next + 1 ≡ suc k = omega (arith, count_more next counts other) in
-    let behind : (place + length first) + length more ≡ place + length text = omega (arith, ap length whole, length-append first more) in
+    let after : (place + length first) + length more ≡ place + length text = omega (arith, ap length whole, length-append first more) in
     ap (read_from before counts cards place) texts
     ∙ reads_on before counts cards place first (line_texts (more ++ rest)) next columns other here
     ∙ ap (λ l. read_from (Some next) (one_more next counts) (keep next l cards) (place + length first) (line_texts (more ++ rest))) (sym is.kept_columns)
     ∙ runs next xs (suc k) more rest (Some next) (one_more next counts) (keep next x cards) (place + length first) other again (λ _. again) next_count others
-    ∙ ap (λ p. read_from (before_all next xs (Some next)) (counts_all next xs (one_more next counts)) (cards_all next xs (keep next x cards)) p (line_texts rest)) behind
+    ∙ ap (λ p. read_from (before_all next xs (Some next)) (counts_all next xs (one_more next counts)) (cards_all next xs (keep next x cards)) p (line_texts rest)) after
 
 -- ---- the same for each section
 

@@ -7,7 +7,7 @@ use Rattle.iges_cards.specs.declared.faults.CardFault.TheVariants as fault
 use Rattle.iges_cards.specs.declared.sections.Counts.{Counts}
 use Rattle.iges_cards.specs.declared.sections.Section.{Section}
 use Rattle.iges_cards.specs.declared.sections.Section.TheVariants as section
-use Rattle.iges_cards.specs.Checks.{◌>>=◌, columns_in, is_other_form, allowed, section_behind, card_in, group_in, told, told_in, same_count, terminated}
+use Rattle.iges_cards.specs.Checks.{◌>>=◌, columns_in, is_other_form, allowed, section_after, card_in, group_in, told, told_in, same_count, terminated}
 use Rattle.iges_cards.specs.Grammar.{IsGroup, HasGroups}
 use Rattle.solid_base.specs.Spelling.{is_blank}
 use Rattle.iges_cards.specs.Lines.{HasColumns}
@@ -57,8 +57,8 @@ named_again section.Directory = refl
 named_again section.Parameter = refl
 named_again section.Terminate = refl
 
-section_again : (number : ℕ) (before : Option Section) (next : Section) → may_follow before next ≡ true → section_behind number before (letter_of next) ≡ Ok next
-unfolding section_behind
+section_again : (number : ℕ) (before : Option Section) (next : Section) → may_follow before next ≡ true → section_after number before (letter_of next) ≡ Ok next
+unfolding section_after
 section_again number before next h = rw (own_form before next, named_again next, h) refl
 
 allowed_takes : (number : ℕ) (before o : Option Section) (next : Section) → allowed number before o ≡ Ok next → (o ≡ Some next) × (may_follow before next ≡ true)
@@ -82,8 +82,8 @@ named_takes letter next h =
     named_case letter section.Parameter next _ (letter == 80) refl (
     named_case letter section.Terminate next None (letter == 84) refl (λ e. cc))))) h
 
-section_takes : (number : ℕ) (before : Option Section) (letter : ℕ) (next : Section) → section_behind number before letter ≡ Ok next → (letter ≡ letter_of next) × (may_follow before next ≡ true)
-unfolding section_behind
+section_takes : (number : ℕ) (before : Option Section) (letter : ℕ) (next : Section) → section_after number before letter ≡ Ok next → (letter ≡ letter_of next) × (may_follow before next ≡ true)
+unfolding section_after
 section_takes number before letter next h =
     let (other, more) = not_stopped (is_other_form before letter) (allowed number before (section_of letter)) fault.NotFixed next h in
     let (named, may) = allowed_takes number before (section_of letter) next more in
@@ -91,7 +91,7 @@ section_takes number before letter next h =
 
 -- ---- cards
 
--- a line that may stand behind the others
+-- a line that may stand after the others
 pub record IsNext (before : Option Section) (counts : Counts) (next : Section) (columns line : List ℕ) : Type 0 where
   pub columns_of : HasColumns columns line
   pub follows : may_follow before next ≡ true
@@ -110,15 +110,15 @@ pub card_again : (before : Option Section) (counts : Counts) (next : Section) (c
 unfolding card_in
 card_again before counts next columns line h =
     let number = lines_in counts + 1 in
-    let named : section_behind number before (slice_index columns 72) ≡ Ok next = ap (section_behind number before) h.letter ∙ section_again number before next h.follows in
+    let named : section_after number before (slice_index columns 72) ≡ Ok next = ap (section_after number before) h.letter ∙ section_again number before next h.follows in
     rw (columns_again number columns line h.columns_of, named, same_again (number_in (drop 73 columns)) (count_of counts next + 1) (number_again (count_of counts next + 1) (drop 73 columns) h.sequence)) refl
 
 pub card_takes : (before : Option Section) (counts : Counts) (next : Section) (columns line : List ℕ) → card_in before counts line ≡ Ok (next, columns) → IsNext before counts next columns line
 unfolding card_in
 card_takes before counts next columns line h =
     let number = lines_in counts + 1 in
-    let (found, of_line, more) = both_gave (columns_in number line) (λ columns. section_behind number before (slice_index columns 72) >>= λ next. cond (is_same (number_in (drop 73 columns)) (count_of counts next + 1)) (Ok (next, columns)) (Err (fault.BadSequence number))) (next, columns) h in
-    let (named, of_letter, last) = both_gave (section_behind number before (slice_index found 72)) (λ next. cond (is_same (number_in (drop 73 found)) (count_of counts next + 1)) (Ok (next, found)) (Err (fault.BadSequence number))) (next, columns) more in
+    let (found, of_line, more) = both_gave (columns_in number line) (λ columns. section_after number before (slice_index columns 72) >>= λ next. cond (is_same (number_in (drop 73 columns)) (count_of counts next + 1)) (Ok (next, columns)) (Err (fault.BadSequence number))) (next, columns) h in
+    let (named, of_letter, last) = both_gave (section_after number before (slice_index found 72)) (λ next. cond (is_same (number_in (drop 73 found)) (count_of counts next + 1)) (Ok (next, found)) (Err (fault.BadSequence number))) (next, columns) more in
     let (same, pair) = no_fault (is_same (number_in (drop 73 found)) (count_of counts named + 1)) (Ok (named, found)) (fault.BadSequence number) (next, columns) last in
     let (section, cols) = same_pair named next found columns pair in
     let (letter, may) = section_takes number before (slice_index found 72) named of_letter in

@@ -1,4 +1,4 @@
--- The faults of bytes are never want of memory.
+-- The faults of bytes are never out of memory.
 use Rattle.std.proofs.Common.{◌≡◌, ℕ, ◌+◌, List, [], ◌∷◌, Bool, true, false, cond, ◌==◌, nat_lt, length, take, drop, slice_index, Option, Some, None, Result, Ok, Err, refl, subst, arith}
 use Rattle.std.specs.List.{list_all}
 use Rattle.iges_cards.specs.declared.faults.CardFault.{CardFault}
@@ -7,7 +7,7 @@ use Rattle.iges_cards.specs.declared.reader.Cards.{Cards}
 use Rattle.iges_cards.specs.declared.sections.Counts.{Counts}
 use Rattle.iges_cards.specs.declared.sections.Section.{Section}
 use Rattle.iges_cards.specs.declared.sections.Section.TheVariants as section
-use Rattle.iges_cards.specs.Checks.{◌>>=◌, columns_in, is_other_form, allowed, group_in, section_behind, card_in, told, told_in, same_count, terminated}
+use Rattle.iges_cards.specs.Checks.{◌>>=◌, columns_in, is_other_form, allowed, group_in, section_after, card_in, told, told_in, same_count, terminated}
 use Rattle.solid_base.specs.Spelling.{is_blank}
 use Rattle.iges_cards.specs.Lines.{line_texts, line_of}
 use Rattle.iges_cards.specs.Numbers.{is_same, number_in}
@@ -15,7 +15,7 @@ use Rattle.iges_cards.specs.Reading.{keep, no_cards, read_from, cards_in}
 use Rattle.iges_cards.specs.Sections.{letter_of, section_of, may_follow, width_of, is_terminate, count_of, one_more, lines_in, no_lines}
 use Rattle.iges_cards.specs.Words.{IsOfText}
 
--- what is read is no want of memory
+-- what is read is no out of memory
 abbrev pub TellsOfText : {A : Type 0} → Result A CardFault → Type 0
 TellsOfText (Ok x) = Unit {0}
 TellsOfText (Err f) = IsOfText f
@@ -38,17 +38,17 @@ allowed_tells : (number : ℕ) (before o : Option Section) → TellsOfText (allo
 allowed_tells number before None = λ e. omega arith
 allowed_tells number before (Some s) = either_tells {A = Section} (may_follow before s) (Ok s) (Err (fault.BadSection number)) tt (λ e. omega arith)
 
-section_tells : (number : ℕ) (before : Option Section) (letter : ℕ) → TellsOfText (section_behind number before letter)
-unfolding section_behind
+section_tells : (number : ℕ) (before : Option Section) (letter : ℕ) → TellsOfText (section_after number before letter)
+unfolding section_after
 section_tells number before letter = either_tells {A = Section} (is_other_form before letter) (Err fault.NotFixed) (allowed number before (section_of letter)) (λ e. omega arith) (allowed_tells number before (section_of letter))
 
 card_tells : (before : Option Section) (counts : Counts) (line : List ℕ) → TellsOfText (card_in before counts line)
 unfolding card_in
 card_tells before counts line =
     next_tells {A = List ℕ} {B = Section × List ℕ} (columns_in (lines_in counts + 1) line)
-    (λ columns. section_behind (lines_in counts + 1) before (slice_index columns 72) >>= λ next. cond (is_same (number_in (drop 73 columns)) (count_of counts next + 1)) (Ok (next, columns)) (Err (fault.BadSequence (lines_in counts + 1))))
+    (λ columns. section_after (lines_in counts + 1) before (slice_index columns 72) >>= λ next. cond (is_same (number_in (drop 73 columns)) (count_of counts next + 1)) (Ok (next, columns)) (Err (fault.BadSequence (lines_in counts + 1))))
     (columns_tell (lines_in counts + 1) line) (λ columns.
-    next_tells {A = Section} {B = Section × List ℕ} (section_behind (lines_in counts + 1) before (slice_index columns 72))
+    next_tells {A = Section} {B = Section × List ℕ} (section_after (lines_in counts + 1) before (slice_index columns 72))
     (λ next. cond (is_same (number_in (drop 73 columns)) (count_of counts next + 1)) (Ok (next, columns)) (Err (fault.BadSequence (lines_in counts + 1)))) (section_tells (lines_in counts + 1) before (slice_index columns 72)) (λ next.
     either_tells {A = Section × List ℕ} (is_same (number_in (drop 73 columns)) (count_of counts next + 1)) (Ok (next, columns)) (Err (fault.BadSequence (lines_in counts + 1))) tt (λ e. omega arith)))
 

@@ -9,7 +9,7 @@ use Rattle.iges_cards.proofs.CheckLaws.{and_false, test_other, test_same, test_n
 
 -- ---- the texts of lines
 
--- a line that LF ends, and what stands behind it
+-- a line that LF ends, and what stands after it
 pub texts_cut : (line rest : List ℕ) → IsOneLine line → line_texts (line ++ 10 ∷ rest) ≡ (line ++ 10 ∷ []) ∷ line_texts rest
 unfolding line_texts
 texts_cut [] rest h = refl
@@ -43,7 +43,7 @@ unfolding line_of
 line_open [] h = refl
 line_open (b ∷ bs) h = kept b bs (one_line_no_feed (b ∷ bs) h) (and_false (b == 13) (is_feed bs) (one_line_no_feed bs h.1)) ∙ ap (λ l. b ∷ l) (line_open bs h.1)
 
--- LF behind a line that doesn't end in CR
+-- LF after a line that doesn't end in CR
 pub line_plain : (line : List ℕ) → IsOneLine line → ((front : List ℕ) → line ≢ front ++ 13 ∷ []) → line_of (line ++ 10 ∷ []) ≡ line
 unfolding line_of
 line_plain [] h other = refl
@@ -55,7 +55,7 @@ line_plain (b ∷ c ∷ bs) h other =
     kept b (c ∷ (bs ++ 10 ∷ [])) refl (and_false (b == 13) _ long)
     ∙ ap (λ l. b ∷ l) (line_plain (c ∷ bs) h.1 (λ front e. other (b ∷ front) (ap (λ l. b ∷ l) e)))
 
--- CR LF behind a line
+-- CR LF after a line
 pub line_return : (line : List ℕ) → line_of (line ++ 13 ∷ 10 ∷ []) ≡ line
 unfolding line_of
 line_return [] = refl
@@ -78,8 +78,8 @@ line_again text line h =
 pub feed_at : (bytes : List ℕ) (n : ℕ) → n < length bytes → slice_index bytes n ≡ 10 → All (λ b. b ≢ 10) (take n bytes)
     → (bytes ≡ (take n bytes ++ 10 ∷ []) ++ drop (n + 1) bytes) × (line_texts bytes ≡ (take n bytes ++ 10 ∷ []) ∷ line_texts (drop (n + 1) bytes))
 feed_at bytes n within is before =
-    let behind : drop n bytes ≡ 10 ∷ drop (n + 1) bytes = rw add-one (drop-cons bytes n 0 within ∙ ap (λ b. b ∷ drop (suc n) bytes) is) in
-    let whole : bytes ≡ take n bytes ++ 10 ∷ drop (n + 1) bytes = sym (take-append-drop n bytes) ∙ ap (λ l. take n bytes ++ l) behind in (
+    let after : drop n bytes ≡ 10 ∷ drop (n + 1) bytes = rw add-one (drop-cons bytes n 0 within ∙ ap (λ b. b ∷ drop (suc n) bytes) is) in
+    let whole : bytes ≡ take n bytes ++ 10 ∷ drop (n + 1) bytes = sym (take-append-drop n bytes) ∙ ap (λ l. take n bytes ++ l) after in (
       whole ∙ sym (append_assoc (take n bytes) (10 ∷ []) (drop (n + 1) bytes)),
       ap line_texts whole ∙ texts_cut (take n bytes) (drop (n + 1) bytes) (recursion_from_All (λ b. b ≢ 10) (take n bytes) before),
     )
@@ -138,9 +138,9 @@ unfolding EndsInReturn
 single b true e = inl ([], ap (λ c. c ∷ []) (test_same b 13 e))
 single b false e = inr (not_return b (test_not b 13 e))
 
-behind_one : (b : ℕ) (bs : List ℕ) → 0 < length bs → ((front : List ℕ) → bs ≢ front ++ 13 ∷ []) → (front : List ℕ) → b ∷ bs ≢ front ++ 13 ∷ []
-behind_one b bs some other [] e = let n : bs ≡ [] = cc in let m : length bs ≡ 0 = ap length n in absurd (omega arith)
-behind_one b bs some other (f ∷ fs) e = other fs (let more : bs ≡ fs ++ 13 ∷ [] = cc in more)
+after_one : (b : ℕ) (bs : List ℕ) → 0 < length bs → ((front : List ℕ) → bs ≢ front ++ 13 ∷ []) → (front : List ℕ) → b ∷ bs ≢ front ++ 13 ∷ []
+after_one b bs some other [] e = let n : bs ≡ [] = cc in let m : length bs ≡ 0 = ap length n in absurd (omega arith)
+after_one b bs some other (f ∷ fs) e = other fs (let more : bs ≡ fs ++ 13 ∷ [] = cc in more)
 
 nothing : (front : List ℕ) → [] ≢ front ++ 13 ∷ []
 nothing front e = let n : 0 ≡ length front + 1 = ap length e ∙ length-append front (13 ∷ []) in absurd (omega arith)
@@ -151,7 +151,7 @@ ends_in_return [] = inr nothing
 ends_in_return (b ∷ []) = single b (b == 13) refl
 ends_in_return (b ∷ c ∷ bs) = elim (ends_in_return (c ∷ bs)) as (λ _. EndsInReturn (b ∷ c ∷ bs)) [
   | inl found ↦ inl (b ∷ found.0, ap (λ l. b ∷ l) found.1)
-  | inr other ↦ inr (behind_one b (c ∷ bs) (omega arith) other)
+  | inr other ↦ inr (after_one b (c ∷ bs) (omega arith) other)
 ]
 
 front_one_line : (a b : List ℕ) → IsOneLine (a ++ b) → IsOneLine a

@@ -5,7 +5,7 @@ use Rattle.std.proofs.lemmas.List.{take-append-drop}
 use Rattle.std.proofs.lemmas.List.Folds.{length-prefix_len}
 use Rattle.std.proofs.Math.Seq.{take-append_seam, drop-append_seam}
 use Rattle.solid_base.specs.Digits.{is_digit, AreDigits, number_of}
-use Rattle.solid_base.specs.Spelling.{is_blank, AreBlanks, behind_blanks}
+use Rattle.solid_base.specs.Spelling.{is_blank, AreBlanks, after_blanks}
 use Rattle.solid_base.proofs.Digits.{number_of_below}
 use Rattle.solid_base.proofs.Prefix.{front_passes}
 use Rattle.iges_cards.specs.Numbers.{IsNumber, number_before, number_in}
@@ -39,11 +39,11 @@ digit_not_blank b h = grind arith
 blank_not_digit : (b : ℕ) → IsTrue (is_blank b) → is_digit b ≡ false
 blank_not_digit b h = grind arith
 
-digits_stop : (digits behind : List ℕ) → 0 < length digits → AreDigits digits → Stops is_blank (digits ++ behind)
-digits_stop [] behind some h = absurd (omega arith)
-digits_stop (d ∷ ds) behind some h = digit_not_blank d h.0
+digits_stop : (digits after : List ℕ) → 0 < length digits → AreDigits digits → Stops is_blank (digits ++ after)
+digits_stop [] after some h = absurd (omega arith)
+digits_stop (d ∷ ds) after some h = digit_not_blank d h.0
 
-blanks_stop : (behind : List ℕ) → AreBlanks behind → Stops is_digit behind
+blanks_stop : (after : List ℕ) → AreBlanks after → Stops is_digit after
 blanks_stop [] h = tt
 blanks_stop (b ∷ bs) h = blank_not_digit b h.0
 
@@ -52,17 +52,17 @@ not_none n h = grind arith
 
 -- ---- the laws
 
-number_again_before : (digits behind : List ℕ) → 0 < length digits → AreDigits digits → AreBlanks behind → number_before (prefix_len is_digit (digits ++ behind)) (digits ++ behind) ≡ Some (number_of digits)
-number_again_before digits behind some h b =
-    rw (front_length is_digit digits behind h (blanks_stop behind b), drop-append_seam digits behind, take-append_seam digits behind, all_test is_blank behind b, not_none (length digits) some) refl
+number_again_before : (digits after : List ℕ) → 0 < length digits → AreDigits digits → AreBlanks after → number_before (prefix_len is_digit (digits ++ after)) (digits ++ after) ≡ Some (number_of digits)
+number_again_before digits after some h b =
+    rw (front_length is_digit digits after h (blanks_stop after b), drop-append_seam digits after, take-append_seam digits after, all_test is_blank after b, not_none (length digits) some) refl
 
 pub number_again : (n : ℕ) (columns : List ℕ) → IsNumber n columns → number_in columns ≡ Some n
 unfolding number_in
 number_again n columns h =
-    let rest = h.digits ++ h.behind in
-    let count : prefix_len is_blank columns ≡ length h.before = ap (prefix_len is_blank) h.spelt ∙ front_length is_blank h.before rest h.before_blank (digits_stop h.digits h.behind h.some_digit h.all_digits) in
-    let text : behind_blanks columns ≡ rest = ap (λ k. drop k columns) count ∙ ap (drop (length h.before)) h.spelt ∙ drop-append_seam h.before rest in
-    ap (λ t. number_before (prefix_len is_digit t) t) text ∙ number_again_before h.digits h.behind h.some_digit h.all_digits h.behind_blank ∙ ap Some h.value
+    let rest = h.digits ++ h.after in
+    let count : prefix_len is_blank columns ≡ length h.before = ap (prefix_len is_blank) h.spelt ∙ front_length is_blank h.before rest h.before_blank (digits_stop h.digits h.after h.some_digit h.all_digits) in
+    let text : after_blanks columns ≡ rest = ap (λ k. drop k columns) count ∙ ap (drop (length h.before)) h.spelt ∙ drop-append_seam h.before rest in
+    ap (λ t. number_before (prefix_len is_digit t) t) text ∙ number_again_before h.digits h.after h.some_digit h.all_digits h.after_blank ∙ ap Some h.value
 
 some_of : (n : ℕ) → not (n == 0) ≡ true → 0 < n
 some_of n h = let other = test_not n 0 (turned (n == 0) h) in omega arith
@@ -70,7 +70,7 @@ some_of n h = let other = test_not n 0 (turned (n == 0) h) in omega arith
 pub number_takes : (n : ℕ) (columns : List ℕ) → number_in columns ≡ Some n → IsNumber n columns
 unfolding number_in
 number_takes n columns h =
-    let text = behind_blanks columns in
+    let text = after_blanks columns in
     let count = prefix_len is_digit text in
     let (tests, value) = passed (not (count == 0) && list_all is_blank (drop count text)) (Some (number_of (take count text))) n h in
     let (some, blank) = both (not (count == 0)) (list_all is_blank (drop count text)) tests in
@@ -78,19 +78,19 @@ number_takes n columns h =
     record {
       before = take (prefix_len is_blank columns) columns;
       digits = take count text;
-      behind = drop count text;
+      after = drop count text;
       spelt = sym (take-append-drop (prefix_len is_blank columns) columns) ∙ ap (λ t. take (prefix_len is_blank columns) columns ++ t) (sym (take-append-drop count text));
       before_blank = front_passes is_blank columns;
       some_digit = omega (arith, length-prefix_len is_digit text);
       all_digits = front_passes is_digit text;
-      behind_blank = test_all is_blank (drop count text) blank;
+      after_blank = test_all is_blank (drop count text) blank;
       value = (let e : number_of (take count text) ≡ n = cc in e);
     }
 
 -- a number in seven columns
 pub number_below : (n : ℕ) (columns : List ℕ) → IsNumber n columns → length columns ≤ 7 → n ≤ 9999999
 number_below n columns h short =
-    let parts : length columns ≡ length h.before + (length h.digits + length h.behind) =
-    ap length h.spelt ∙ length-append h.before (h.digits ++ h.behind) ∙ ap (λ k. length h.before + k) (length-append h.digits h.behind) in
+    let parts : length columns ≡ length h.before + (length h.digits + length h.after) =
+    ap length h.spelt ∙ length-append h.before (h.digits ++ h.after) ∙ ap (λ k. length h.before + k) (length-append h.digits h.after) in
     let below = number_of_below 7 h.digits h.all_digits (omega arith) in
     omega (arith, below, h.value)

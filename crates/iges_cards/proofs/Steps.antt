@@ -44,38 +44,38 @@ is_last section.Global h = cc
 is_last section.Directory h = cc
 is_last section.Parameter h = cc
 
--- the place behind a line
-place_behind : (bytes rest line behind : List ℕ) → length rest ≤ length bytes → (f : IsFirstLine rest line behind) → (length bytes - length rest) + length f.text ≡ length bytes - length behind
-place_behind bytes rest line behind within f = omega (arith, ap length f.split, length-append f.text behind)
+-- the place after a line
+place_after : (bytes rest line after : List ℕ) → length rest ≤ length bytes → (f : IsFirstLine rest line after) → (length bytes - length rest) + length f.text ≡ length bytes - length after
+place_after bytes rest line after within f = omega (arith, ap length f.split, length-append f.text after)
 
-pub goes_on : (bytes rest line behind columns : List ℕ) (before : Option Section) (counts : Counts) (cards : Cards) (next : Section) (total : Result Cards CardFault) → length rest ≤ length bytes → IsFirstLine rest line behind
+pub goes_on : (bytes rest line after columns : List ℕ) (before : Option Section) (counts : Counts) (cards : Cards) (next : Section) (total : Result Cards CardFault) → length rest ≤ length bytes → IsFirstLine rest line after
     → card_in before counts line ≡ Ok (next, columns) → is_terminate next ≡ false → read_from before counts cards (length bytes - length rest) (line_texts rest) ≡ total
-    → read_from (Some next) (one_more next counts) (keep next (take (width_of next) columns) cards) (length bytes - length behind) (line_texts behind) ≡ total
-goes_on bytes rest line behind columns before counts cards next total within f e other so_far =
+    → read_from (Some next) (one_more next counts) (keep next (take (width_of next) columns) cards) (length bytes - length after) (line_texts after) ≡ total
+goes_on bytes rest line after columns before counts cards next total within f e other so_far =
     let place = length bytes - length rest in
-    ap (λ p. read_from (Some next) (one_more next counts) (keep next (take (width_of next) columns) cards) p (line_texts behind)) (sym (place_behind bytes rest line behind within f))
-    ∙ sym (reads_on before counts cards place f.text (line_texts behind) next columns other (ap (card_in before counts) (sym f.without_end) ∙ e))
+    ap (λ p. read_from (Some next) (one_more next counts) (keep next (take (width_of next) columns) cards) p (line_texts after)) (sym (place_after bytes rest line after within f))
+    ∙ sym (reads_on before counts cards place f.text (line_texts after) next columns other (ap (card_in before counts) (sym f.without_end) ∙ e))
     ∙ ap (read_from before counts cards place) (sym f.texts) ∙ so_far
 
-pub is_done : (bytes rest line behind columns : List ℕ) (before : Option Section) (counts : Counts) (cards : Cards) (next : Section) (x : Counts) (total : Result Cards CardFault) → length rest ≤ length bytes → IsFirstLine rest line behind
+pub is_done : (bytes rest line after columns : List ℕ) (before : Option Section) (counts : Counts) (cards : Cards) (next : Section) (x : Counts) (total : Result Cards CardFault) → length rest ≤ length bytes → IsFirstLine rest line after
     → card_in before counts line ≡ Ok (next, columns) → is_terminate next ≡ true → terminated counts columns ≡ Ok x → read_from before counts cards (length bytes - length rest) (line_texts rest) ≡ total
-    → total ≡ Ok (record cards { end = length bytes - length behind })
-is_done bytes rest line behind columns before counts cards next x total within f e last t so_far =
+    → total ≡ Ok (record cards { end = length bytes - length after })
+is_done bytes rest line after columns before counts cards next x total within f e last t so_far =
     let place = length bytes - length rest in
     let here : card_in before counts (line_of f.text) ≡ Ok (section.Terminate, columns) = ap (card_in before counts) (sym f.without_end) ∙ e ∙ ap (λ (s : Section). Ok (s, columns)) (is_last next last) in
-    sym so_far ∙ ap (read_from before counts cards place) f.texts ∙ reads_end before counts cards place f.text (line_texts behind) columns x here t
-    ∙ ap (λ (p : ℕ). Ok (record cards { end = p })) (place_behind bytes rest line behind within f)
+    sym so_far ∙ ap (read_from before counts cards place) f.texts ∙ reads_end before counts cards place f.text (line_texts after) columns x here t
+    ∙ ap (λ (p : ℕ). Ok (record cards { end = p })) (place_after bytes rest line after within f)
 
-pub stops : (rest line behind : List ℕ) (before : Option Section) (counts : Counts) (cards : Cards) (place : ℕ) (found : CardFault) (total : Result Cards CardFault) → IsFirstLine rest line behind
+pub stops : (rest line after : List ℕ) (before : Option Section) (counts : Counts) (cards : Cards) (place : ℕ) (found : CardFault) (total : Result Cards CardFault) → IsFirstLine rest line after
     → card_in before counts line ≡ Err found → read_from before counts cards place (line_texts rest) ≡ total → total ≡ Err found
-stops rest line behind before counts cards place found total f e so_far =
-    sym so_far ∙ ap (read_from before counts cards place) f.texts ∙ reads_fault before counts cards place f.text (line_texts behind) found (ap (card_in before counts) (sym f.without_end) ∙ e)
+stops rest line after before counts cards place found total f e so_far =
+    sym so_far ∙ ap (read_from before counts cards place) f.texts ∙ reads_fault before counts cards place f.text (line_texts after) found (ap (card_in before counts) (sym f.without_end) ∙ e)
 
-pub stops_at_counts : (rest line behind columns : List ℕ) (before : Option Section) (counts : Counts) (cards : Cards) (next : Section) (place : ℕ) (found : CardFault) (total : Result Cards CardFault) → IsFirstLine rest line behind
+pub stops_at_counts : (rest line after columns : List ℕ) (before : Option Section) (counts : Counts) (cards : Cards) (next : Section) (place : ℕ) (found : CardFault) (total : Result Cards CardFault) → IsFirstLine rest line after
     → card_in before counts line ≡ Ok (next, columns) → is_terminate next ≡ true → terminated counts columns ≡ Err found → read_from before counts cards place (line_texts rest) ≡ total → total ≡ Err found
-stops_at_counts rest line behind columns before counts cards next place found total f e last t so_far =
+stops_at_counts rest line after columns before counts cards next place found total f e last t so_far =
     let here : card_in before counts (line_of f.text) ≡ Ok (section.Terminate, columns) = ap (card_in before counts) (sym f.without_end) ∙ e ∙ ap (λ (s : Section). Ok (s, columns)) (is_last next last) in
-    sym so_far ∙ ap (read_from before counts cards place) f.texts ∙ reads_count_fault before counts cards place f.text (line_texts behind) columns found here t
+    sym so_far ∙ ap (read_from before counts cards place) f.texts ∙ reads_count_fault before counts cards place f.text (line_texts after) columns found here t
 
 -- no line is left
 pub no_more : (rest : List ℕ) (before : Option Section) (counts : Counts) (cards : Cards) (place : ℕ) (total : Result Cards CardFault) → (length rest == 0) ≡ true → read_from before counts cards place (line_texts rest) ≡ total → total ≡ Err fault.NoTerminate

@@ -38,15 +38,15 @@ abbrev pub allowed : ℕ → Option Section → Option Section → Result Sectio
 allowed number before None = Err (fault.BadSection number)
 allowed number before (Some next) = cond (may_follow before next) (Ok next) (Err (fault.BadSection number))
 
--- the section that a letter names, behind a line of another
-unfoldable pub section_behind : ℕ → Option Section → ℕ → Result Section CardFault
-section_behind number before letter = cond (is_other_form before letter) (Err fault.NotFixed) (allowed number before (section_of letter))
+-- the section that a letter names, after a line of another
+unfoldable pub section_after : ℕ → Option Section → ℕ → Result Section CardFault
+section_after number before letter = cond (is_other_form before letter) (Err fault.NotFixed) (allowed number before (section_of letter))
 
--- the section and the columns of a line behind so many others
+-- the section and the columns of a line after so many others
 unfoldable pub card_in : Option Section → Counts → List ℕ → Result (Section × List ℕ) CardFault
 card_in before counts line =
     columns_in (lines_in counts + 1) line >>= λ columns.
-    section_behind (lines_in counts + 1) before (slice_index columns 72) >>= λ next.
+    section_after (lines_in counts + 1) before (slice_index columns 72) >>= λ next.
     cond (is_same (number_in (drop 73 columns)) (count_of counts next + 1)) (Ok (next, columns)) (Err (fault.BadSequence (lines_in counts + 1)))
 
 -- the number in a group of the terminate line

@@ -1,5 +1,5 @@
 -- A file in the fixed form (IGES 5.3, 2.2.2): the start, global, directory entry and parameter data sections, and the
--- terminate line. Directory and parameter lines may be absent, and parameter lines stand behind directory lines alone.
+-- terminate line. Directory and parameter lines may be absent, and parameter lines stand after directory lines alone.
 use Rattle.std.specs.Prelude.{◌≡◌, ◌<◌, ◌⊎◌, ℕ, ◌+◌, List, [], ◌∷◌, ◌++◌, length, take, drop, slice_index}
 use Rattle.std.specs.List.{concat}
 use Rattle.solid_base.specs.Series.{Spells}
@@ -42,7 +42,7 @@ pub record HasGroups (counts : Counts) (columns : List ℕ) : Type 0 where
   pub directory : IsGroup section.Directory counts.directory (take 8 (drop 16 columns))
   pub parameter : IsGroup section.Parameter counts.parameter (take 8 (drop 24 columns))
 
--- the terminate line, which may also end where the input ends; rest stands behind it
+-- the terminate line, which may also end where the input ends; rest stands after it
 pub record IsTerminate (counts : Counts) (text rest : List ℕ) : Type 0 where
   pub line : List ℕ
   pub columns : List ℕ
@@ -67,7 +67,7 @@ pub record AreSections (text : List ℕ) (start globals directory params : List 
 abbrev pub counts_of : List (List ℕ) → List (List ℕ) → List (List ℕ) → List (List ℕ) → Counts
 counts_of start globals directory params = record { start = length start; global = length globals; directory = length directory; parameter = length params }
 
--- the bytes are a file in the fixed form: its sections, its terminate line, and whatever stands behind that
+-- the bytes are a file in the fixed form: its sections, its terminate line, and whatever stands after that
 pub record IsFixedForm (bytes : List ℕ) (cards : Cards) : Type 0 where
   pub globals : List (List ℕ)
   pub sections_text : List ℕ

@@ -13,7 +13,7 @@ pub record IsLine (text line : List ℕ) : Type 0 where
   pub one_line : IsOneLine line
   pub ended : (text ≡ line ++ 13 ∷ 10 ∷ []) ⊎ ((text ≡ line ++ 10 ∷ []) × ((front : List ℕ) → line ≢ front ++ 13 ∷ []))
 
--- a line of 80 columns, and blanks alone behind them
+-- a line of 80 columns, and blanks alone after them
 pub record HasColumns (columns line : List ℕ) : Type 0 where
   pub tail : List ℕ
   pub eighty : length columns ≡ 80
@@ -43,7 +43,7 @@ unfoldable pub line_of : List ℕ → List ℕ
 line_of [] = []
 line_of (b ∷ bs) = cond (is_feed (b ∷ bs)) [] (cond ((b == 13) && is_feed bs) [] (b ∷ line_of bs))
 
--- the first line of the bytes without its line end, and the bytes behind it
+-- the first line of the bytes without its line end, and the bytes after it
 pub record IsFirstLine (bytes line rest : List ℕ) : Type 0 where
   pub text : List ℕ
   pub split : bytes ≡ text ++ rest

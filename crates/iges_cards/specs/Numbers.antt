@@ -3,29 +3,29 @@
 use Rattle.std.specs.Prelude.{◌≡◌, ◌<◌, ℕ, List, ◌++◌, Bool, ◌&&◌, ◌==◌, cond, not, false, length, take, drop, Option, None, Some}
 use Rattle.std.specs.List.{prefix_len, list_all}
 use Rattle.solid_base.specs.Digits.{is_digit, AreDigits, number_of}
-use Rattle.solid_base.specs.Spelling.{is_blank, AreBlanks, behind_blanks}
+use Rattle.solid_base.specs.Spelling.{is_blank, AreBlanks, after_blanks}
 
--- the columns hold this number: digits, and blanks before or behind them
+-- the columns hold this number: digits, and blanks before or after them
 pub record IsNumber (n : ℕ) (columns : List ℕ) : Type 0 where
   pub before : List ℕ
   pub digits : List ℕ
-  pub behind : List ℕ
-  pub spelt : columns ≡ before ++ (digits ++ behind)
+  pub after : List ℕ
+  pub spelt : columns ≡ before ++ (digits ++ after)
   pub before_blank : AreBlanks before
   pub some_digit : 0 < length digits
   pub all_digits : AreDigits digits
-  pub behind_blank : AreBlanks behind
+  pub after_blank : AreBlanks after
   pub value : number_of digits ≡ n
 
 -- ---- how a number is read from its columns
 
--- the number that so many digits in front spell, where blanks alone stand behind them
+-- the number that so many digits in front spell, where blanks alone stand after them
 abbrev pub number_before : ℕ → List ℕ → Option ℕ
 number_before count text = cond (not (count == 0) && list_all is_blank (drop count text)) (Some (number_of (take count text))) None
 
 -- the number that columns hold
 unfoldable pub number_in : List ℕ → Option ℕ
-number_in columns = number_before (prefix_len is_digit (behind_blanks columns)) (behind_blanks columns)
+number_in columns = number_before (prefix_len is_digit (after_blanks columns)) (after_blanks columns)
 
 -- whether a number was read, and is this one
 abbrev pub is_same : Option ℕ → ℕ → Bool

@@ -18,7 +18,7 @@ section_of letter =
     cond (letter == 83) (Some section.Start) (cond (letter == 71) (Some section.Global) (cond (letter == 68) (Some section.Directory)
     (cond (letter == 80) (Some section.Parameter) (cond (letter == 84) (Some section.Terminate) None))))
 
--- S comes first; behind S comes S or G, behind G also D or T, behind D it is D, P or T, and behind P it is P or T
+-- S comes first; after S comes S or G, after G also D or T, after D it is D, P or T, and after P it is P or T
 abbrev pub may_follow : Option Section → Section → Bool
 may_follow None section.Start = true
 may_follow None section.Global = false

@@ -15,11 +15,11 @@ fault_number fault.NoTerminate = 7
 fault_number fault.BadTerminate = 8
 fault_number (fault.CountMismatch letter told found) = 9
 
--- the fault isn't want of memory
+-- the fault isn't out of memory
 abbrev pub IsOfText : CardFault → Type 0
 IsOfText f = fault_number f ≢ 1
 
--- the fault's name and its numbers, blanks between them; a section is printed as its letter. Want of memory is never
+-- the fault's name and its numbers, blanks between them; a section is printed as its letter. Out of memory is never
 -- printed, and so has no words
 abbrev pub fault_words : CardFault → List ℕ
 fault_words (fault.Memory e) = codes ""

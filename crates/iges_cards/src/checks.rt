@@ -1,5 +1,5 @@
 ghost use Rattle.std.specs.Prelude.{◌≡◌, ◌≤◌, ◌+◌, length, IfOk};
-ghost use Rattle.iges_cards.specs.Checks.{Gives, columns_in, section_behind, card_in, group_in, told_in, same_count, terminated};
+ghost use Rattle.iges_cards.specs.Checks.{Gives, columns_in, section_after, card_in, group_in, told_in, same_count, terminated};
 ghost use Rattle.iges_cards.specs.Numbers.{number_in, is_same};
 ghost use Rattle.iges_cards.specs.Sections.{AreFew};
 
@@ -25,10 +25,10 @@ fn columns_in(number: u32, line: &[u8]) -> Result<&[u8], CardFault>
     }
 }
 
-/// The section that a letter names, behind a line of another section or in front.
-#[tactic(auto, unfolding(crate::specs::Checks::section_behind))]
-fn section_behind(number: u32, before: Option<Section>, letter: u8) -> Result<Section, CardFault>
-    ensures { Gives (λ section. section) result (section_behind number before letter) }
+/// The section that a letter names, after a line of another section or in front.
+#[tactic(auto, unfolding(crate::specs::Checks::section_after))]
+fn section_after(number: u32, before: Option<Section>, letter: u8) -> Result<Section, CardFault>
+    ensures { Gives (λ section. section) result (section_after number before letter) }
 {
     if before.is_none() && (letter == b'C' || letter == b'B') {
         return Err(CardFault::NotFixed);
@@ -50,7 +50,7 @@ fn is_number(columns: &[u8], number: u32) -> bool
     }
 }
 
-/// The section and the 80 columns of a line behind so many others.
+/// The section and the 80 columns of a line after so many others.
 #[tactic(auto, unfolding(crate::specs::Checks::card_in))]
 pub fn card_in(
     before: Option<Section>,
@@ -63,7 +63,7 @@ pub fn card_in(
 {
     let number = counts.lines() + 1;
     let columns = columns_in(number, line)?;
-    let section = section_behind(number, before, columns[72])?;
+    let section = section_after(number, before, columns[72])?;
     let (_, sequence) = columns.split_at(73);
     if is_number(sequence, counts.of(section) + 1) {
         Ok((section, columns))

@@ -8,8 +8,8 @@ use thiserror::Error;
 /// Why bytes are no cards. Lines are counted from 1.
 #[derive(Clone, Copy, Debug, PartialEq, Eq, Error)]
 pub enum CardFault {
-    /// Memory was wanting.
-    #[error("memory is wanting")]
+    /// Out of memory.
+    #[error("out of memory")]
     Memory(AllocError),
     /// The first line has C or B in column 73.
     #[error("the file isn't of the fixed form")]
@@ -17,7 +17,7 @@ pub enum CardFault {
     /// A line has fewer than 80 columns.
     #[error("line {0} has fewer than 80 columns")]
     ShortLine(u32),
-    /// A byte behind column 80 isn't a blank.
+    /// A byte after column 80 isn't a blank.
     #[error("line {0} has more than 80 columns")]
     LongLine(u32),
     /// The letter in column 73 may not follow that of the line before.
@@ -72,8 +72,8 @@ impl CardFault {
         }
     }
 
-    /// The fault as it is printed: its name and its numbers, a section as its letter. AllocError where
-    /// memory is wanting. Want of memory itself is never printed.
+    /// The fault as it is printed: its name and its numbers, a section as its letter. AllocError when
+    /// out of memory. Out of memory itself is never printed.
     pub fn write_fault(&self, alloc: Global) -> Result<Bytes, AllocError>
         requires { IsOfText self.now }
         ensures { IfOk result (λ words. words ≡ fault_words self.now) }

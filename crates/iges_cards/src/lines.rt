@@ -22,7 +22,7 @@ fn without_return(line: &[u8]) -> &[u8]
     }
 }
 
-/// The first line without its line end, LF or CR LF, and the bytes behind it. The last line may have no
+/// The first line without its line end, LF or CR LF, and the bytes after it. The last line may have no
 /// line end.
 pub fn split_line(bytes: &[u8]) -> (&[u8], &[u8])
     requires { 0 < length bytes.now }

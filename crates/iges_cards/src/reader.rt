@@ -22,7 +22,7 @@ pub struct Cards<'a> {
     pub directory: BorrowedLines<'a>,
     /// Columns 1 to 64 of each parameter line.
     pub params: BorrowedLines<'a>,
-    /// The place behind the terminate line and its line end.
+    /// The place after the terminate line and its line end.
     pub end: usize,
 }
 
@@ -59,9 +59,9 @@ impl<'a> Cards<'a> {
     }
 }
 
-/// Reads lines up to the terminate line. What stands behind it isn't read.
+/// Reads lines up to the terminate line. What stands after it isn't read.
 ///
-/// A line has 80 columns and ends with LF or CR LF; blanks alone may stand behind column 80, and the
+/// A line has 80 columns and ends with LF or CR LF; blanks alone may stand after column 80, and the
 /// terminate line may also end where the bytes end. Column 73 is the section letter: S lines come first,
 /// then G, D, P and one T line; D and P lines may be absent. Columns 74 to 80 are the number of the line
 /// in its section. Columns 1 to 32 of the T line tell how many lines S, G, D and P have.
@@ -69,7 +69,7 @@ impl<'a> Cards<'a> {
 /// Bytes that aren't so are refused by the first fault, line by line; of one line ShortLine, LongLine,
 /// NotFixed, BadSection and BadSequence are looked for in this order, and in the T line then
 /// BadTerminate and CountMismatch. NoTerminate comes where no line has a fault and there is no T line.
-/// Memory comes where memory is wanting.
+/// Memory comes when out of memory.
 pub fn read_cards<'a>(alloc: Global, bytes: &'a [u8]) -> Result<Cards<'a>, CardFault>
     ensures found { IfOk result (λ cards. cards_in bytes.now ≡ Ok cards) }
     ensures first_fault { IfErr result (λ fault. IsOfText fault → cards_in bytes.now ≡ Err fault) }
@@ -80,8 +80,8 @@ pub fn read_cards<'a>(alloc: Global, bytes: &'a [u8]) -> Result<Cards<'a>, CardF
     let mut before = None;
     let mut rest = bytes;
     while !rest.is_empty() {
-        let (line, behind) = split_line(rest);
-        rest = behind;
+        let (line, after) = split_line(rest);
+        rest = after;
         let (section, columns) = card_in(before, counts, line)?;
         if section.is_terminate() {
             check_counts(counts, columns)?;

@@ -58,7 +58,7 @@ impl Section {
         }
     }
 
-    /// Whether a line of this section may stand behind a line of another, or in front.
+    /// Whether a line of this section may stand after a line of another, or in front.
     pub fn follows(self, before: Option<Section>) -> bool
         ensures { result ≡ may_follow before self }
     {

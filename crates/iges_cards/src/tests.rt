@@ -8,12 +8,12 @@ type Line = (&'static str, &'static str, &'static str);
 
 fn text_of(alloc: Global, lines: &[Line]) -> Result<Vec<u8>, AllocError> {
     let mut text = Vec::new(alloc);
-    for (front, behind, end) in lines {
+    for (front, after, end) in lines {
         text.extend_from_slice(front.as_bytes())?;
         for _ in front.len()..72 {
             text.push(b' ')?;
         }
-        text.extend_from_slice(behind.as_bytes())?;
+        text.extend_from_slice(after.as_bytes())?;
         text.extend_from_slice(end.as_bytes())?;
     }
     Ok(text)
@@ -127,7 +127,7 @@ fn first_faults(rt: HostRuntime) -> Result<(), Fail> {
     Ok(())
 }
 
-/// What is behind the terminate line in each test.
+/// What is after the terminate line in each test.
 const BEHIND: &str = "@1 point 1 0 0 0\n";
 
 #[test]

@@ -44,9 +44,9 @@ pairs_take params [] read found even few h =
     ([], sym same ∙ sym (append-nil read), tt, subst (λ p. text_of p ≤ 500000) same few)
 pairs_take params (one ∷ []) read found even few h = absurd (omega (arith, even))
 pairs_take params (one ∷ two ∷ lines) read found even few h =
-    let (pair, here, behind) = both_gave (pair_in params (text_of read) (2 * length read + 1) one two) (λ pair. pairs_from params (read ++ pair ∷ []) lines) found h in
+    let (pair, here, after) = both_gave (pair_in params (text_of read) (2 * length read + 1) one two) (λ pair. pairs_from params (read ++ pair ∷ []) lines) found h in
     let (is, text) = pair_takes params (text_of read) (2 * length read + 1) one two pair here few in
-    let all = pairs_take params lines (read ++ pair ∷ []) found (omega (arith, even)) (omega (arith, text_more read pair, text)) behind in
+    let all = pairs_take params lines (read ++ pair ∷ []) found (omega (arith, even)) (omega (arith, text_more read pair, text)) after in
     let (pairs, whole, others, most) = all in
     (pair ∷ pairs, whole ∙ append_assoc read (pair ∷ []) pairs, (is, others), most)
 

@@ -1,4 +1,4 @@
--- The faults of lines are never want of memory.
+-- The faults of lines are never out of memory.
 use Rattle.std.proofs.Common.{◌≡◌, ℕ, ◌+◌, ◌-◌, ◌*◌, ◌%◌, List, [], ◌∷◌, ◌++◌, Bool, true, false, cond, not, ◌==◌, ◌&&◌, ◌||◌, nat_le, nat_lt, length, Option, Some, None, Result, Ok, Err, refl, subst, arith}
 use Rattle.std.specs.List.{list_all}
 use Rattle.solid_base.specs.Spelling.{is_blank}
@@ -8,9 +8,9 @@ use Rattle.iges_directory.specs.declared.pairs.Pair.{Pair}
 use Rattle.iges_directory.specs.DirectoryFaults.{IsOfText}
 use Rattle.iges_directory.specs.ColumnNumbers.{number_in}
 use Rattle.iges_directory.specs.Pairs.{field, attributes, null_pair, text_of}
-use Rattle.iges_directory.specs.DirectoryReading.{◌>>=◌, within, type_in, behind_lines, behind_first, entity_in, pair_in, pairs_from, directory_in}
+use Rattle.iges_directory.specs.DirectoryReading.{◌>>=◌, within, type_in, after_lines, after_first, entity_in, pair_in, pairs_from, directory_in}
 
--- what is read is no want of memory
+-- what is read is no out of memory
 abbrev pub TellsOfText : {A : Type 0} → Result A DirFault → Type 0
 TellsOfText (Ok x) = Unit {0}
 TellsOfText (Err f) = IsOfText f
@@ -38,7 +38,7 @@ type_tells entity one two =
     either_tells {A = ℕ} ((again == kind) || list_all is_blank (field 1 two)) (Ok kind) (Err (fault.TypeDiffers entity)) tt (λ e. omega arith)))
 
 -- the matrix and the form of an entity
-rest_tells : (entity kind first count : ℕ) (one two : List ℕ) → TellsOfText {A = Pair} (behind_lines entity kind first count one two)
+rest_tells : (entity kind first count : ℕ) (one two : List ℕ) → TellsOfText {A = Pair} (after_lines entity kind first count one two)
 rest_tells entity kind first count one two =
     next_tells {A = ℕ} {B = Pair} (within entity 7 0 9999999 (number_in (field 7 one))) (λ matrix. within entity 15 0 99999 (number_in (field 5 two)) >>= λ form. Ok (record { kind = kind; first = first; count = count; matrix = matrix; form = form; attrs = attributes one two }))
     (within_tells entity 7 0 9999999 (number_in (field 7 one))) (λ matrix.
@@ -48,13 +48,13 @@ rest_tells entity kind first count one two =
 entity_tells : (params text entity kind : ℕ) (one two : List ℕ) → TellsOfText (entity_in params text entity kind one two)
 unfolding entity_in
 entity_tells params text entity kind one two =
-    next_tells {A = ℕ} {B = Pair} (within entity 2 1 params (number_in (field 2 one))) (λ first. behind_first params text entity kind first one two)
+    next_tells {A = ℕ} {B = Pair} (within entity 2 1 params (number_in (field 2 one))) (λ first. after_first params text entity kind first one two)
     (within_tells entity 2 1 params (number_in (field 2 one))) (λ first.
     next_tells {A = ℕ} {B = Pair} (within entity 14 1 (params - first + 1) (number_in (field 4 two))) (λ count. cond (nat_lt 500000 (text + count)) (Err (fault.TooMuchText entity))
-    (behind_lines entity kind first count one two))
+    (after_lines entity kind first count one two))
     (within_tells entity 14 1 (params - first + 1) (number_in (field 4 two))) (λ count.
     either_tells {A = Pair} (nat_lt 500000 (text + count)) (Err (fault.TooMuchText entity))
-    (behind_lines entity kind first count one two)
+    (after_lines entity kind first count one two)
     (λ e. omega arith) (rest_tells entity kind first count one two)))
 
 pair_tells : (params text entity : ℕ) (one two : List ℕ) → TellsOfText (pair_in params text entity one two)

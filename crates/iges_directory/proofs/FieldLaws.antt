@@ -69,18 +69,18 @@ pub stops_once : (comma semi m n : ℕ) (text : List ℕ) → AreDelimiters comm
 stops_once comma semi m n text law h k = h.index ∙ ap (λ (x : ℕ). x + 3) (one_stop comma semi text h.rest k.rest h.front k.front law h.begins h.none k.begins k.none) ∙ sym k.index
 
 -- ---- a field more
-pub begins_more : (comma semi : ℕ) (text rest behind : List ℕ) (ts : List Token) (t : Token) → BeginsWith comma semi text ts rest → IsField comma semi rest (field_of t behind false) → BeginsWith comma semi text (ts ++ t ∷ []) behind
-begins_more comma semi text rest behind [] t h f = (behind, subst (λ (x : List ℕ). IsField comma semi x (field_of t behind false)) (sym h) f, refl)
-begins_more comma semi text rest behind (u ∷ us) t h f = (h.0, h.1, begins_more comma semi h.0 rest behind us t h.2 f)
+pub begins_more : (comma semi : ℕ) (text rest after : List ℕ) (ts : List Token) (t : Token) → BeginsWith comma semi text ts rest → IsField comma semi rest (field_of t after false) → BeginsWith comma semi text (ts ++ t ∷ []) after
+begins_more comma semi text rest after [] t h f = (after, subst (λ (x : List ℕ). IsField comma semi x (field_of t after false)) (sym h) f, refl)
+begins_more comma semi text rest after (u ∷ us) t h f = (h.0, h.1, begins_more comma semi h.0 rest after us t h.2 f)
 
 not_last : (us : List Token) (t : Token) → is_last (us ++ t ∷ []) ≡ false
 not_last [] t = refl
 not_last (u ∷ us) t = refl
 
-pub begins_ends : (comma semi : ℕ) (text rest behind : List ℕ) (ts : List Token) (t : Token) → BeginsWith comma semi text ts rest → IsField comma semi rest (field_of t behind true) → AreFields comma semi text (ts ++ t ∷ [])
-begins_ends comma semi text rest behind [] t h f = (behind, subst (λ (x : List ℕ). IsField comma semi x (field_of t behind true)) (sym h) f, tt)
-begins_ends comma semi text rest behind (u ∷ us) t h f =
-    (h.0, subst (λ (v : Bool). IsField comma semi text (field_of u h.0 v)) (sym (not_last us t)) h.1, begins_ends comma semi h.0 rest behind us t h.2 f)
+pub begins_ends : (comma semi : ℕ) (text rest after : List ℕ) (ts : List Token) (t : Token) → BeginsWith comma semi text ts rest → IsField comma semi rest (field_of t after true) → AreFields comma semi text (ts ++ t ∷ [])
+begins_ends comma semi text rest after [] t h f = (after, subst (λ (x : List ℕ). IsField comma semi x (field_of t after true)) (sym h) f, tt)
+begins_ends comma semi text rest after (u ∷ us) t h f =
+    (h.0, subst (λ (v : Bool). IsField comma semi text (field_of u h.0 v)) (sym (not_last us t)) h.1, begins_ends comma semi h.0 rest after us t h.2 f)
 
 -- ---- fields, or a place at which they stop
 abbrev pub Found : ℕ → ℕ → List ℕ → Type 0
@@ -95,10 +95,10 @@ token_of_field comma semi text f h = go f.kind f.text h.spelt refl h.spells wher
   go kind.Real content spelt e s = e
   go kind.Text content spelt e s = e
 
-one_more : (comma semi : ℕ) (text behind : List ℕ) (t : Token) → IsField comma semi text (field_of t behind false) → Found comma semi behind → Found comma semi text
-one_more comma semi text behind t f (inl ([], last, h)) = cc
-one_more comma semi text behind t f (inl (u ∷ us, last, h)) = inl (t ∷ u ∷ us, refl, (behind, f, h))
-one_more comma semi text behind t f (inr (n, h)) = inr (suc n, record { front = t ∷ h.front; rest = h.rest; begins = (behind, f, h.begins); none = h.none; index = (let i = h.index in omega (arith, i)) })
+one_more : (comma semi : ℕ) (text after : List ℕ) (t : Token) → IsField comma semi text (field_of t after false) → Found comma semi after → Found comma semi text
+one_more comma semi text after t f (inl ([], last, h)) = cc
+one_more comma semi text after t f (inl (u ∷ us, last, h)) = inl (t ∷ u ∷ us, refl, (after, f, h))
+one_more comma semi text after t f (inr (n, h)) = inr (suc n, record { front = t ∷ h.front; rest = h.rest; begins = (after, f, h.begins); none = h.none; index = (let i = h.index in omega (arith, i)) })
 
 found_next : (comma semi : ℕ) (text : List ℕ) → AreDelimiters comma semi → ((rest : List ℕ) → length rest < length text → Found comma semi rest) → Found comma semi text
 found_next comma semi text law again = go (field_at comma semi text) refl where

@@ -16,7 +16,7 @@ use Rattle.iges_directory.specs.Global.{AreFields, BeginsWith, NoField, StopsAt}
 use Rattle.iges_directory.specs.GlobalSteps.{IsContent}
 use Rattle.iges_directory.proofs.FieldLaws.{begins_more, begins_ends}
 
--- what was read: fields with comma behind each, or all fields up to the one that semi ends
+-- what was read: fields with comma after each, or all fields up to the one that semi ends
 abbrev pub HasRead : Bool → ℕ → ℕ → List ℕ → List Token → List ℕ → Type 0
 HasRead false comma semi text ts rest = BeginsWith comma semi text ts rest
 HasRead true comma semi text ts rest = (0 < length ts) × AreFields comma semi text ts
@@ -69,10 +69,10 @@ content_is kind.Text content spelt h = tt
 pub content_read : (old new : Reader) (field : Field) → IsNext old new (Ok (Some field)) → IsContent field.kind field.text.now
 content_read old new field h = let r = next_reads old new field h in content_is field.kind field.text.now r.is.spelt r.is.spells
 
-one_read : (comma semi : ℕ) (ended : Bool) (text rest behind : List ℕ) (ts : List Token) (t : Token) → BeginsWith comma semi text ts rest → IsField comma semi rest (field_of t behind ended)
-    → HasRead ended comma semi text (ts ++ t ∷ []) behind
-one_read comma semi false text rest behind ts t h f = begins_more comma semi text rest behind ts t h f
-one_read comma semi true text rest behind ts t h f = (let l = length-append ts (t ∷ []) in omega (arith, l), begins_ends comma semi text rest behind ts t h f)
+one_read : (comma semi : ℕ) (ended : Bool) (text rest after : List ℕ) (ts : List Token) (t : Token) → BeginsWith comma semi text ts rest → IsField comma semi rest (field_of t after ended)
+    → HasRead ended comma semi text (ts ++ t ∷ []) after
+one_read comma semi false text rest after ts t h f = begins_more comma semi text rest after ts t h f
+one_read comma semi true text rest after ts t h f = (let l = length-append ts (t ∷ []) in omega (arith, l), begins_ends comma semi text rest after ts t h f)
 
 -- what the loop keeps
 pub record IsUnderWay (comma semi : ℕ) (text : List ℕ) (ts : List Token) (reader : Reader) : Type 0 where

@@ -8,7 +8,7 @@ use Rattle.iges_directory.specs.declared.directory_faults.DirFault.TheVariants a
 use Rattle.iges_directory.specs.declared.pairs.Pair.{Pair}
 use Rattle.iges_directory.specs.ColumnNumbers.{number_in}
 use Rattle.iges_directory.specs.Pairs.{field, attributes, null_pair, HoldsWithin, IsOfType, IsEntity, IsPair}
-use Rattle.iges_directory.specs.DirectoryReading.{◌>>=◌, within, type_in, behind_lines, behind_first, entity_in, pair_in}
+use Rattle.iges_directory.specs.DirectoryReading.{◌>>=◌, within, type_in, after_lines, after_first, entity_in, pair_in}
 use Rattle.iges_directory.proofs.NumberForms.{all_test, test_all, number_again, number_takes}
 
 -- ---- tests
@@ -125,10 +125,10 @@ entity_again params text entity one two pair h few =
 entity_takes : (params text entity kind : ℕ) (one two : List ℕ) (pair : Pair) → entity_in params text entity kind one two ≡ Ok pair → IsOfType kind one two → kind ≢ 0 → IsEntity params one two pair × (text + pair.count ≤ 500000)
 unfolding entity_in
 entity_takes params text entity kind one two pair h of_type some =
-    let (first, first_in, m) = both_gave (within entity 2 1 params (number_in (field 2 one))) (λ first. behind_first params text entity kind first one two) pair h in
+    let (first, first_in, m) = both_gave (within entity 2 1 params (number_in (field 2 one))) (λ first. after_first params text entity kind first one two) pair h in
     let (count, count_in, n) = both_gave (within entity 14 1 (params - first + 1) (number_in (field 4 two))) (λ count. cond (nat_lt 500000 (text + count)) (Err (fault.TooMuchText entity))
-    (behind_lines entity kind first count one two)) pair m in
-    let (few, k) = not_stopped (nat_lt 500000 (text + count)) (behind_lines entity kind first count one two) (fault.TooMuchText entity) pair n in
+    (after_lines entity kind first count one two)) pair m in
+    let (few, k) = not_stopped (nat_lt 500000 (text + count)) (after_lines entity kind first count one two) (fault.TooMuchText entity) pair n in
     let (matrix, matrix_in, j) = both_gave (within entity 7 0 9999999 (number_in (field 7 one))) (λ matrix. within entity 15 0 99999 (number_in (field 5 two)) >>= λ form. Ok (record { kind = kind; first = first; count = count; matrix = matrix; form = form; attrs = attributes one two })) pair k in
     let (form, form_in, i) = both_gave (within entity 15 0 99999 (number_in (field 5 two))) (λ form. Ok (record { kind = kind; first = first; count = count; matrix = matrix; form = form; attrs = attributes one two })) pair j in
     let is : record { kind = kind; first = first; count = count; matrix = matrix; form = form; attrs = attributes one two } ≡ pair = cc in

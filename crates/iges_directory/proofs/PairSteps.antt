@@ -35,49 +35,49 @@ starts params lines h k = rw (same (length lines % 2) 0 h, not_less 200000 (leng
 
 -- ---- a pair
 
--- the line at a place, and those behind it
+-- the line at a place, and those after it
 one_at : (lines : List (List ℕ)) (at : ℕ) (one : List ℕ) → slice_get lines at ≡ Some one → drop at lines ≡ one ∷ drop (suc at) lines
 one_at [] at one is = cc
 one_at (x ∷ lines) zero one is = let same : x ≡ one = cc in rw same refl
 one_at (x ∷ lines) (suc at) one is = one_at lines at one is
 
--- the two lines at a place, and those behind them
+-- the two lines at a place, and those after them
 pub two_at : (lines : List (List ℕ)) (at : ℕ) (one two : List ℕ) → slice_get lines at ≡ Some one → slice_get lines (at + 1) ≡ Some two → drop at lines ≡ one ∷ two ∷ drop (at + 2) lines
 two_at lines at one two p q =
     let next : suc at ≡ at + 1 = omega arith in
-    let behind : suc (suc at) ≡ at + 2 = omega arith in
-    one_at lines at one p ∙ ap (λ (ls : List (List ℕ)). one ∷ ls) (one_at lines (suc at) two (ap (λ (n : ℕ). slice_get lines n) next ∙ q) ∙ ap (λ (n : ℕ). two ∷ drop n lines) behind)
+    let after : suc (suc at) ≡ at + 2 = omega arith in
+    one_at lines at one p ∙ ap (λ (ls : List (List ℕ)). one ∷ ls) (one_at lines (suc at) two (ap (λ (n : ℕ). slice_get lines n) next ∙ q) ∙ ap (λ (n : ℕ). two ∷ drop n lines) after)
 
--- no line stands behind the last one
-pub none_behind : (lines : List (List ℕ)) (at : ℕ) → length lines ≤ at → length (drop at lines) < 2
-none_behind [] zero h = omega arith
-none_behind [] (suc at) h = omega arith
-none_behind (x ∷ lines) zero h = absurd (omega (arith, h))
-none_behind (x ∷ lines) (suc at) h = none_behind lines at (omega (arith, h))
+-- no line stands after the last one
+pub none_after : (lines : List (List ℕ)) (at : ℕ) → length lines ≤ at → length (drop at lines) < 2
+none_after [] zero h = omega arith
+none_after [] (suc at) h = omega arith
+none_after (x ∷ lines) zero h = absurd (omega (arith, h))
+none_after (x ∷ lines) (suc at) h = none_after lines at (omega (arith, h))
 
-pub eighty_first : (lines behind : List (List ℕ)) (one two : List ℕ) → lines ≡ one ∷ two ∷ behind → AllByRecursion (λ line. length line ≡ 80) lines → (length one ≡ 80) × (length two ≡ 80) × AllByRecursion (λ line. length line ≡ 80) behind
-eighty_first lines behind one two e h =
-    let all : AllByRecursion (λ line. length line ≡ 80) (one ∷ two ∷ behind) = subst (AllByRecursion (λ line. length line ≡ 80)) e h in
+pub eighty_first : (lines after : List (List ℕ)) (one two : List ℕ) → lines ≡ one ∷ two ∷ after → AllByRecursion (λ line. length line ≡ 80) lines → (length one ≡ 80) × (length two ≡ 80) × AllByRecursion (λ line. length line ≡ 80) after
+eighty_first lines after one two e h =
+    let all : AllByRecursion (λ line. length line ≡ 80) (one ∷ two ∷ after) = subst (AllByRecursion (λ line. length line ≡ 80)) e h in
     (all.0, all.1.0, all.1.1)
 
 pub text_more : (pairs : List Pair) (pair : Pair) → text_of (pairs ++ pair ∷ []) ≡ text_of pairs + pair.count
 text_more [] pair = omega arith
 text_more (x ∷ pairs) pair = omega (arith, text_more pairs pair)
 
-pub goes_on : (params text entity : ℕ) (pairs : List Pair) (pair : Pair) (lines behind : List (List ℕ)) (one two : List ℕ) (total : Result (List Pair) DirFault) → lines ≡ one ∷ two ∷ behind → text ≡ text_of pairs → entity ≡ 2 * length pairs + 1
-    → pair_in params text entity one two ≡ Ok pair → pairs_from params pairs lines ≡ total → pairs_from params (pairs ++ pair ∷ []) behind ≡ total
+pub goes_on : (params text entity : ℕ) (pairs : List Pair) (pair : Pair) (lines after : List (List ℕ)) (one two : List ℕ) (total : Result (List Pair) DirFault) → lines ≡ one ∷ two ∷ after → text ≡ text_of pairs → entity ≡ 2 * length pairs + 1
+    → pair_in params text entity one two ≡ Ok pair → pairs_from params pairs lines ≡ total → pairs_from params (pairs ++ pair ∷ []) after ≡ total
 unfolding pairs_from
-goes_on params text entity pairs pair lines behind one two total e t n k so_far =
+goes_on params text entity pairs pair lines after one two total e t n k so_far =
     let here : pair_in params (text_of pairs) (2 * length pairs + 1) one two ≡ Ok pair = ap (λ m. pair_in params m (2 * length pairs + 1) one two) (sym t) ∙ ap (λ m. pair_in params text m one two) (sym n) ∙ k in
-    let on : pairs_from params pairs (one ∷ two ∷ behind) ≡ pairs_from params (pairs ++ pair ∷ []) behind = rw here refl in
+    let on : pairs_from params pairs (one ∷ two ∷ after) ≡ pairs_from params (pairs ++ pair ∷ []) after = rw here refl in
     sym on ∙ ap (pairs_from params pairs) (sym e) ∙ so_far
 
-pub stops : (params text entity : ℕ) (pairs : List Pair) (found : DirFault) (lines behind : List (List ℕ)) (one two : List ℕ) (total : Result (List Pair) DirFault) → lines ≡ one ∷ two ∷ behind → text ≡ text_of pairs → entity ≡ 2 * length pairs + 1
+pub stops : (params text entity : ℕ) (pairs : List Pair) (found : DirFault) (lines after : List (List ℕ)) (one two : List ℕ) (total : Result (List Pair) DirFault) → lines ≡ one ∷ two ∷ after → text ≡ text_of pairs → entity ≡ 2 * length pairs + 1
     → pair_in params text entity one two ≡ Err found → pairs_from params pairs lines ≡ total → total ≡ Err found
 unfolding pairs_from
-stops params text entity pairs found lines behind one two total e t n k so_far =
+stops params text entity pairs found lines after one two total e t n k so_far =
     let here : pair_in params (text_of pairs) (2 * length pairs + 1) one two ≡ Err found = ap (λ m. pair_in params m (2 * length pairs + 1) one two) (sym t) ∙ ap (λ m. pair_in params text m one two) (sym n) ∙ k in
-    let on : pairs_from params pairs (one ∷ two ∷ behind) ≡ Err found = rw here refl in
+    let on : pairs_from params pairs (one ∷ two ∷ after) ≡ Err found = rw here refl in
     sym so_far ∙ ap (pairs_from params pairs) e ∙ on
 
 -- no pair is left

@@ -3,7 +3,7 @@ use Rattle.std.proofs.Common.{◌≡◌, ◌≢◌, ℕ, List, [], ◌∷◌, �
 use Rattle.std.specs.List.{prefix_len}
 use Rattle.std.proofs.lemmas.List.{take-append-drop}
 use Rattle.std.proofs.lemmas.Bool.Decides.{nat_tests}
-use Rattle.solid_base.specs.Spelling.{is_blank, AreBlanks, behind_blanks}
+use Rattle.solid_base.specs.Spelling.{is_blank, AreBlanks, after_blanks}
 use Rattle.solid_base.proofs.Prefix.{front_passes, both}
 use Rattle.iges_fields.specs.Delimiters.{is_lawful, AreDelimiters}
 use Rattle.iges_fields.specs.Grammar.{delimiter}
@@ -39,24 +39,24 @@ nothing_told usual end [] h = refl
 nothing_told usual end (b ∷ []) h = refl
 nothing_told usual end (b ∷ d ∷ rest) h = rw h refl
 
-tells : (usual d end : ℕ) (text rest before spelt behind : List ℕ) → is_lawful end ≡ true → AreBlanks before → AreBlanks behind → SpellsDelimiter usual d spelt
-    → text ≡ before ++ (spelt ++ (behind ++ end ∷ rest)) → told usual text ≡ (d, end ∷ rest)
-tells usual d end text rest before spelt behind law blank_before blank_behind (inl h) is =
+tells : (usual d end : ℕ) (text rest before spelt after : List ℕ) → is_lawful end ≡ true → AreBlanks before → AreBlanks after → SpellsDelimiter usual d spelt
+    → text ≡ before ++ (spelt ++ (after ++ end ∷ rest)) → told usual text ≡ (d, end ∷ rest)
+tells usual d end text rest before spelt after law blank_before blank_after (inl h) is =
     let stop : prefix_len is_blank (end ∷ rest) ≡ 0 = rw ((lawful_parts end law).blank) refl in
-    let cut : behind_blanks text ≡ end ∷ rest =
-    ap behind_blanks is ∙ ap (λ (s : List ℕ). behind_blanks (before ++ (s ++ (behind ++ end ∷ rest)))) h.0 ∙ ap behind_blanks (sym (append_assoc before behind (end ∷ rest)))
-    ∙ blanks_skipped (before ++ behind) (end ∷ rest) (all_append is_blank before behind blank_before blank_behind) stop in
+    let cut : after_blanks text ≡ end ∷ rest =
+    ap after_blanks is ∙ ap (λ (s : List ℕ). after_blanks (before ++ (s ++ (after ++ end ∷ rest)))) h.0 ∙ ap after_blanks (sym (append_assoc before after (end ∷ rest)))
+    ∙ blanks_skipped (before ++ after) (end ∷ rest) (all_append is_blank before after blank_before blank_after) stop in
     ap (told_at usual) cut ∙ nothing_told usual end rest (lawful_no_one end law) ∙ ap (λ (x : ℕ). (x, end ∷ rest)) (sym h.1)
-tells usual d end text rest before spelt behind law blank_before blank_behind (inr h) is =
+tells usual d end text rest before spelt after law blank_before blank_after (inr h) is =
     let stop : prefix_len is_blank (end ∷ rest) ≡ 0 = rw ((lawful_parts end law).blank) refl in
-    let cut : behind_blanks text ≡ 49 ∷ 72 ∷ d ∷ (behind ++ end ∷ rest) =
-    ap behind_blanks is ∙ ap (λ (s : List ℕ). behind_blanks (before ++ (s ++ (behind ++ end ∷ rest)))) h.0
-    ∙ blanks_skipped before (49 ∷ 72 ∷ d ∷ (behind ++ end ∷ rest)) blank_before refl in
-    let one : told_at usual (49 ∷ 72 ∷ d ∷ (behind ++ end ∷ rest)) ≡ (d, behind_blanks (behind ++ end ∷ rest)) = rw h.1 refl in
-    ap (told_at usual) cut ∙ one ∙ ap (λ (x : List ℕ). (d, x)) (blanks_skipped behind (end ∷ rest) blank_behind stop)
+    let cut : after_blanks text ≡ 49 ∷ 72 ∷ d ∷ (after ++ end ∷ rest) =
+    ap after_blanks is ∙ ap (λ (s : List ℕ). after_blanks (before ++ (s ++ (after ++ end ∷ rest)))) h.0
+    ∙ blanks_skipped before (49 ∷ 72 ∷ d ∷ (after ++ end ∷ rest)) blank_before refl in
+    let one : told_at usual (49 ∷ 72 ∷ d ∷ (after ++ end ∷ rest)) ≡ (d, after_blanks (after ++ end ∷ rest)) = rw h.1 refl in
+    ap (told_at usual) cut ∙ one ∙ ap (λ (x : List ℕ). (d, x)) (blanks_skipped after (end ∷ rest) blank_after stop)
 
 told_again : (usual d end : ℕ) (text rest : List ℕ) → is_lawful end ≡ true → TellsDelimiter usual d end text rest → told usual text ≡ (d, end ∷ rest)
-told_again usual d end text rest law h = tells usual d end text rest h.before h.spelt h.behind law h.blank_before h.blank_behind h.spells h.is
+told_again usual d end text rest law h = tells usual d end text rest h.before h.spelt h.after law h.blank_before h.blank_after h.spells h.is
 
 pub first_lawful : (comma : ℕ) (text rest : List ℕ) → IsFirst comma text rest → is_lawful comma ≡ true
 first_lawful comma text rest h = told_lawful 44 comma h.spelt refl h.spells
@@ -94,36 +94,36 @@ nothing_spelt : (usual d end : ℕ) (text rest before r : List ℕ) → AreBlank
 nothing_spelt usual d end text rest before r blank is e = record {
   before = before;
   spelt = [];
-  behind = [];
+  after = [];
   blank_before = blank;
   spells = inl (refl, sym (ap (λ (p : ℕ × List ℕ). p.0) e));
-  blank_behind = tt;
+  blank_after = tt;
   is = is ∙ ap (λ (p : ℕ × List ℕ). before ++ p.1) e;
 }
 
-blanks_cut : (text : List ℕ) → text ≡ take (prefix_len is_blank text) text ++ behind_blanks text
+blanks_cut : (text : List ℕ) → text ≡ take (prefix_len is_blank text) text ++ after_blanks text
 blanks_cut text = sym (take-append-drop (prefix_len is_blank text) text)
 
 told_takes : (usual d end : ℕ) (text rest : List ℕ) → told usual text ≡ (d, end ∷ rest) → TellsDelimiter usual d end text rest
-told_takes usual d end text rest h = go (behind_blanks text) (blanks_cut text) h where
+told_takes usual d end text rest h = go (after_blanks text) (blanks_cut text) h where
   before : List ℕ
   before = take (prefix_len is_blank text) text
 
   spelt_out : (a b x : ℕ) (more : List ℕ) (v : Bool) → (a == 49) && (b == 72) && is_lawful x ≡ v → text ≡ before ++ a ∷ b ∷ x ∷ more
-      → ◌≡◌ {A = ℕ × List ℕ} (cond v (x, behind_blanks more) (usual, a ∷ b ∷ x ∷ more)) (d, end ∷ rest) → TellsDelimiter usual d end text rest
+      → ◌≡◌ {A = ℕ × List ℕ} (cond v (x, after_blanks more) (usual, a ∷ b ∷ x ∷ more)) (d, end ∷ rest) → TellsDelimiter usual d end text rest
   spelt_out a b x more false is cut e = nothing_spelt usual d end text rest before (a ∷ b ∷ x ∷ more) (front_passes is_blank text) cut e
   spelt_out a b x more true is cut e =
       let q = both ((a == 49) && (b == 72)) (is_lawful x) is in
       let p = both (a == 49) (b == 72) q.0 in
       let dd : x ≡ d = ap (λ (p : ℕ × List ℕ). p.0) e in
-      let left : behind_blanks more ≡ end ∷ rest = ap (λ (p : ℕ × List ℕ). p.1) e in
+      let left : after_blanks more ≡ end ∷ rest = ap (λ (p : ℕ × List ℕ). p.1) e in
       record {
         before = before;
         spelt = 49 ∷ 72 ∷ d ∷ [];
-        behind = take (prefix_len is_blank more) more;
+        after = take (prefix_len is_blank more) more;
         blank_before = front_passes is_blank text;
         spells = inr (refl, ap is_lawful (sym dd) ∙ q.1);
-        blank_behind = front_passes is_blank more;
+        blank_after = front_passes is_blank more;
         is = cut
             ∙ ap (λ (n : ℕ). before ++ n ∷ b ∷ x ∷ more) (is_byte a 49 p.0)
             ∙ ap (λ (n : ℕ). before ++ 49 ∷ n ∷ x ∷ more) (is_byte b 72 p.1)

@@ -12,11 +12,11 @@ fault_number (fault.BadField entity field) = 4
 fault_number (fault.TypeDiffers entity) = 5
 fault_number (fault.TooMuchText entity) = 6
 
--- the fault isn't want of memory
+-- the fault isn't out of memory
 abbrev pub IsOfText : DirFault → Type 0
 IsOfText f = fault_number f ≢ 1
 
--- the fault's name and its numbers, blanks between them. Want of memory is never printed, and so has no words
+-- the fault's name and its numbers, blanks between them. Out of memory is never printed, and so has no words
 abbrev pub fault_words : DirFault → List ℕ
 fault_words (fault.Memory e) = codes ""
 fault_words fault.OddLines = codes "OddLines"

@@ -33,31 +33,31 @@ type_in entity one two =
     cond ((again == kind) || list_all is_blank (field 1 two)) (Ok kind) (Err (fault.TypeDiffers entity))
 
 -- the entry of an entity of which the type and the parameter lines are known: field 7 and field 15
-abbrev pub behind_lines : ℕ → ℕ → ℕ → ℕ → List ℕ → List ℕ → Result Pair DirFault
-behind_lines entity kind first count one two =
+abbrev pub after_lines : ℕ → ℕ → ℕ → ℕ → List ℕ → List ℕ → Result Pair DirFault
+after_lines entity kind first count one two =
     within entity 7 0 9999999 (number_in (field 7 one)) >>= λ matrix.
     within entity 15 0 99999 (number_in (field 5 two)) >>= λ form.
     Ok (record { kind = kind; first = first; count = count; matrix = matrix; form = form; attrs = attributes one two })
 
 -- the entry of an entity of which the type and the first parameter line are known: field 14, which is at most the
 -- number of lines from there on, and the parameter lines of the entries so far, and then the rest
-abbrev pub behind_first : ℕ → ℕ → ℕ → ℕ → ℕ → List ℕ → List ℕ → Result Pair DirFault
-behind_first params text entity kind first one two =
+abbrev pub after_first : ℕ → ℕ → ℕ → ℕ → ℕ → List ℕ → List ℕ → Result Pair DirFault
+after_first params text entity kind first one two =
     within entity 14 1 (params - first + 1) (number_in (field 4 two)) >>= λ count.
-    cond (nat_lt 500000 (text + count)) (Err (fault.TooMuchText entity)) (behind_lines entity kind first count one two)
+    cond (nat_lt 500000 (text + count)) (Err (fault.TooMuchText entity)) (after_lines entity kind first count one two)
 
--- the entry of an entity of this type, behind entries with so many parameter lines in a file with params of them:
+-- the entry of an entity of this type, after entries with so many parameter lines in a file with params of them:
 -- field 2, which is one of them, and then the rest
 unfoldable pub entity_in : ℕ → ℕ → ℕ → ℕ → List ℕ → List ℕ → Result Pair DirFault
 entity_in params text entity kind one two =
     within entity 2 1 params (number_in (field 2 one)) >>= λ first.
-    behind_first params text entity kind first one two
+    after_first params text entity kind first one two
 
 -- the entry of a pair of lines; one of type 0 is the null entity
 unfoldable pub pair_in : ℕ → ℕ → ℕ → List ℕ → List ℕ → Result Pair DirFault
 pair_in params text entity one two = type_in entity one two >>= λ kind. cond (kind == 0) (Ok null_pair) (entity_in params text entity kind one two)
 
--- an entry is read, and then those behind it; the entity is named by the number of its first line
+-- an entry is read, and then those after it; the entity is named by the number of its first line
 unfoldable pub pairs_from : ℕ → List Pair → List (List ℕ) → Result (List Pair) DirFault
 pairs_from params pairs [] = Ok pairs
 pairs_from params pairs (one ∷ []) = Ok pairs

@@ -1,4 +1,4 @@
--- The global section (IGES 5.3, 2.2.4.3): the delimiters, and the parameters behind them.
+-- The global section (IGES 5.3, 2.2.4.3): the delimiters, and the parameters after them.
 use Rattle.std.specs.Prelude.{◌≡◌, ◌≢◌, ◌⊎◌, ℕ, ◌+◌, List, [], ◌∷◌, ◌++◌, Bool, false, IsTrue, length}
 use Rattle.solid_base.specs.Spelling.{AreBlanks}
 use Rattle.solid_base.specs.declared.entities.Token.{Token}
@@ -20,11 +20,11 @@ SpellsDelimiter usual d spelt = ((spelt ≡ []) × (d ≡ usual)) ⊎ ((spelt �
 pub record TellsDelimiter (usual d end : ℕ) (text rest : List ℕ) : Type 0 where
   pub before : List ℕ
   pub spelt : List ℕ
-  pub behind : List ℕ
+  pub after : List ℕ
   pub blank_before : AreBlanks before
   pub spells : SpellsDelimiter usual d spelt
-  pub blank_behind : AreBlanks behind
-  pub is : text ≡ before ++ (spelt ++ (behind ++ end ∷ rest))
+  pub blank_after : AreBlanks after
+  pub is : text ≡ before ++ (spelt ++ (after ++ end ∷ rest))
 
 -- a text begins with parameter 1 (IGES 5.3, 2.2.4.3.1): it tells comma, which is a comma where nothing is spelt, and comma itself ends it
 abbrev pub IsFirst : ℕ → List ℕ → List ℕ → Type 0
@@ -34,25 +34,25 @@ IsFirst comma text rest = TellsDelimiter 44 comma comma text rest
 abbrev pub IsSecond : ℕ → ℕ → Bool → List ℕ → List ℕ → Type 0
 IsSecond comma semi ended text rest = (semi ≢ comma) × TellsDelimiter 59 semi (delimiter comma semi ended) text rest
 
--- a text begins with these fields, and semi ends the last of them; what stands behind it is free
+-- a text begins with these fields, and semi ends the last of them; what stands after it is free
 abbrev pub AreFields : ℕ → ℕ → List ℕ → List Token → Type 0
 AreFields comma semi text [] = Unit {0}
 AreFields comma semi text (t ∷ ts) = (rest : List ℕ) × IsField comma semi text (field_of t rest (is_last ts)) × AreFields comma semi rest ts
 
 -- a text is a global section with these delimiters and these parameters from the third on
 pub record IsGlobal (text : List ℕ) (global : GlobalText) : Type 0 where
-  pub behind_first : List ℕ
-  pub behind_second : List ℕ
-  pub first : IsFirst global.comma text behind_first
-  pub second : IsSecond global.comma global.semi (is_last global.tokens) behind_first behind_second
-  pub fields : AreFields global.comma global.semi behind_second global.tokens
+  pub after_first : List ℕ
+  pub after_second : List ℕ
+  pub first : IsFirst global.comma text after_first
+  pub second : IsSecond global.comma global.semi (is_last global.tokens) after_first after_second
+  pub fields : AreFields global.comma global.semi after_second global.tokens
 
 -- ---- the first faulty parameter
 
--- a text begins with these fields, each with comma behind it, and this is what stands behind them
+-- a text begins with these fields, each with comma after it, and this is what stands after them
 abbrev pub BeginsWith : ℕ → ℕ → List ℕ → List Token → List ℕ → Type 0
 BeginsWith comma semi text [] rest = text ≡ rest
-BeginsWith comma semi text (t ∷ ts) rest = (behind : List ℕ) × IsField comma semi text (field_of t behind false) × BeginsWith comma semi behind ts rest
+BeginsWith comma semi text (t ∷ ts) rest = (after : List ℕ) × IsField comma semi text (field_of t after false) × BeginsWith comma semi after ts rest
 
 -- a text begins with no field
 abbrev pub NoField : ℕ → ℕ → List ℕ → Type 0
@@ -70,28 +70,28 @@ pub record StopsAt (comma semi n : ℕ) (text : List ℕ) : Type 0 where
 abbrev pub NoFirst : List ℕ → Type 0
 NoFirst text = (comma : ℕ) → (rest : List ℕ) → IsFirst comma text rest → ⊥
 
--- parameter 2 is the first that is faulty: parameter 1 stands there, and no parameter 2 behind it
+-- parameter 2 is the first that is faulty: parameter 1 stands there, and no parameter 2 after it
 pub record NoSecond (text : List ℕ) : Type 0 where
   pub comma : ℕ
-  pub behind_first : List ℕ
-  pub first : IsFirst comma text behind_first
-  pub none : (semi : ℕ) → (ended : Bool) → (rest : List ℕ) → IsSecond comma semi ended behind_first rest → ⊥
+  pub after_first : List ℕ
+  pub first : IsFirst comma text after_first
+  pub none : (semi : ℕ) → (ended : Bool) → (rest : List ℕ) → IsSecond comma semi ended after_first rest → ⊥
 
--- parameter n is the first that is faulty: parameters 1 and 2 stand there, and of the fields behind them it is the first that is none
+-- parameter n is the first that is faulty: parameters 1 and 2 stand there, and of the fields after them it is the first that is none
 pub record NoOther (n : ℕ) (text : List ℕ) : Type 0 where
   pub comma : ℕ
   pub semi : ℕ
-  pub behind_first : List ℕ
-  pub behind_second : List ℕ
-  pub first : IsFirst comma text behind_first
-  pub second : IsSecond comma semi false behind_first behind_second
-  pub stops : StopsAt comma semi n behind_second
+  pub after_first : List ℕ
+  pub after_second : List ℕ
+  pub first : IsFirst comma text after_first
+  pub second : IsSecond comma semi false after_first after_second
+  pub stops : StopsAt comma semi n after_second
 
 -- parameter n is the first that is faulty
 abbrev pub IsFirstFault : ℕ → List ℕ → Type 0
 IsFirstFault n text = ((n ≡ 1) × NoFirst text) ⊎ (((n ≡ 2) × NoSecond text) ⊎ NoOther n text)
 
--- a fault of the text is the first one; want of memory says nothing of the text
+-- a fault of the text is the first one; out of memory says nothing of the text
 abbrev pub IsFaultOf : List ℕ → GlobalFault → Type 0
 IsFaultOf text (fault.Memory e) = Unit {0}
 IsFaultOf text (fault.BadGlobal n) = IsFirstFault n text

@@ -8,11 +8,11 @@ abbrev pub fault_number : GlobalFault → ℕ
 fault_number (fault.Memory e) = 1
 fault_number (fault.BadGlobal index) = 2
 
--- the fault isn't want of memory
+-- the fault isn't out of memory
 abbrev pub IsOfText : GlobalFault → Type 0
 IsOfText f = fault_number f ≢ 1
 
--- the fault's name and its index, a blank between them. Want of memory is never printed, and so has no words
+-- the fault's name and its index, a blank between them. Out of memory is never printed, and so has no words
 abbrev pub fault_words : GlobalFault → List ℕ
 fault_words (fault.Memory e) = codes ""
 fault_words (fault.BadGlobal index) = codes "BadGlobal " ++ decimal index

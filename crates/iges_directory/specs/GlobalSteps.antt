@@ -26,7 +26,7 @@ IsContent kind.Whole content = Unit {0}
 IsContent kind.Real content = Unit {0}
 IsContent kind.Text content = Unit {0}
 
--- a fault of the fields is the first one; want of memory says nothing of the text
+-- a fault of the fields is the first one; out of memory says nothing of the text
 abbrev pub IsOtherFault : ℕ → ℕ → List ℕ → GlobalFault → Type 0
 IsOtherFault comma semi text (fault.Memory e) = Unit {0}
 IsOtherFault comma semi text (fault.BadGlobal n) = StopsAt comma semi n text

@@ -30,7 +30,7 @@ fn push_pair(pairs: &mut Vec<Pair>, pair: Pair) -> Result<(), AllocError>
 /// are checked in order, and of one entry: field 1 (0 to 99,999), field 11 (likewise), TypeDiffers, field
 /// 2 (a parameter line), field 14 (at least 1, and the lines exist), TooMuchText, where the entries so
 /// far have more than 500,000 parameter lines, field 7 (0 to 9,999,999), field 15 (0 to 99,999). A field
-/// that isn't a number in its range is BadField. Memory comes where memory is wanting.
+/// that isn't a number in its range is BadField. Memory comes when out of memory.
 pub fn read_directory(
     alloc: Global,
     lines: &BorrowedLines,

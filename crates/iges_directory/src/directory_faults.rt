@@ -9,8 +9,8 @@ use thiserror::Error;
 /// in the pair of lines, from 1 to 20.
 #[derive(Clone, Copy, Debug, PartialEq, Eq, Error)]
 pub enum DirFault {
-    /// Memory was wanting.
-    #[error("memory is wanting")]
+    /// Out of memory.
+    #[error("out of memory")]
     Memory(AllocError),
     /// The number of lines is odd.
     #[error("the number of directory lines is odd")]
@@ -54,7 +54,7 @@ impl DirFault {
         }
     }
 
-    /// The fault as it is printed: its name and its numbers. AllocError where memory is wanting. Want of
+    /// The fault as it is printed: its name and its numbers. AllocError when out of memory. Want of
     /// memory itself is never printed.
     pub fn write_fault(&self, alloc: Global) -> Result<Bytes, AllocError>
         requires { IsOfText self.now }

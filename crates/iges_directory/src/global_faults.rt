@@ -8,8 +8,8 @@ use thiserror::Error;
 /// Why a text is no global section.
 #[derive(Clone, Copy, Debug, PartialEq, Eq, Error)]
 pub enum GlobalFault {
-    /// Memory was wanting.
-    #[error("memory is wanting")]
+    /// Out of memory.
+    #[error("out of memory")]
     Memory(AllocError),
     /// The parameter with this index, counted from 1, is the first that is faulty.
     #[error("global parameter {0} is faulty")]
@@ -37,7 +37,7 @@ impl GlobalFault {
         }
     }
 
-    /// The fault as it is printed: its name and its number. AllocError where memory is wanting. Want
+    /// The fault as it is printed: its name and its number. AllocError when out of memory. Want
     /// of memory itself is never printed.
     pub fn write_fault(&self, alloc: Global) -> Result<Bytes, AllocError>
         requires { IsOfText self.now }

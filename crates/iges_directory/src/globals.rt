@@ -8,7 +8,7 @@ ghost use Rattle.iges_directory.specs.GlobalSteps.{TellsFirst, TellsSecond, IsCo
 
 use crate::global_faults::GlobalFault;
 use iges_fields::{Field, FieldKind, Fields};
-use solid_base::{Bytes, Token, Tokens, behind_blanks};
+use solid_base::{Bytes, Token, Tokens, after_blanks};
 use std::alloc::{AllocError, Global};
 
 /// What a global section holds.
@@ -16,20 +16,20 @@ use std::alloc::{AllocError, Global};
 pub struct GlobalText {
     /// The delimiter between parameters.
     pub comma: u8,
-    /// The delimiter behind the last parameter.
+    /// The delimiter after the last parameter.
     pub semi: u8,
     /// The parameters from the third on.
     pub tokens: Tokens,
 }
 
-/// Parameter 1, and what stands behind it.
+/// Parameter 1, and what stands after it.
 #[derive(Clone, Copy, Debug)]
 struct First<'a> {
     comma: u8,
     rest: &'a [u8],
 }
 
-/// Parameter 2, whether it is the last, and what stands behind it.
+/// Parameter 2, whether it is the last, and what stands after it.
 #[derive(Clone, Copy, Debug)]
 struct Second<'a> {
     semi: u8,
@@ -45,13 +45,13 @@ fn is_lawful(b: u8) -> bool
         && !matches!(b, b'+' | b'-' | b'.' | b'D' | b'E' | b'H' | b'd' | b'e')
 }
 
-/// The delimiter that a parameter tells, and what stands behind its blanks.
+/// The delimiter that a parameter tells, and what stands after its blanks.
 fn told(text: &[u8], usual: u8) -> (u8, &[u8])
     ensures delimiter { result.0 ≡ (told usual text.now).0 }
     ensures rest { result.1.now ≡ (told usual text.now).1 }
 {
-    match behind_blanks(text) {
-        [b'1', b'H', b, rest @ ..] if is_lawful(*b) => (*b, behind_blanks(rest)),
+    match after_blanks(text) {
+        [b'1', b'H', b, rest @ ..] if is_lawful(*b) => (*b, after_blanks(rest)),
         rest => (usual, rest),
     }
 }
@@ -60,8 +60,8 @@ fn told(text: &[u8], usual: u8) -> (u8, &[u8])
 fn first_in(text: &[u8]) -> Option<First<'_>>
     ensures { TellsFirst result (first_in text.now) }
 {
-    let (comma, behind) = told(text, b',');
-    match behind {
+    let (comma, after) = told(text, b',');
+    match after {
         [b, rest @ ..] if *b == comma => Some(First { comma, rest }),
         _ => None,
     }
@@ -71,11 +71,11 @@ fn first_in(text: &[u8]) -> Option<First<'_>>
 fn second_in(text: &[u8], comma: u8) -> Option<Second<'_>>
     ensures { TellsSecond result (second_in comma text.now) }
 {
-    let (semi, behind) = told(text, b';');
+    let (semi, after) = told(text, b';');
     if semi == comma {
         return None;
     }
-    match behind {
+    match after {
         [b, rest @ ..] if *b == comma => Some(Second {
             semi,
             ended: false,
@@ -129,12 +129,12 @@ fn read_fields(alloc: Global, text: &[u8], comma: u8, semi: u8) -> Result<Tokens
 /// Reads the text of a global section, of at most 2^25 bytes.
 ///
 /// Parameter 1 tells `comma`, which stands between parameters, and parameter 2 tells `semi`, which ends
-/// the last; what stands behind `semi` isn't read. Each is `1H` and the delimiter, or empty, which stands
-/// for `,` and for `;`. The delimiters are lawful and differ. The parameters behind these are fields, of
+/// the last; what stands after `semi` isn't read. Each is `1H` and the delimiter, or empty, which stands
+/// for `,` and for `;`. The delimiters are lawful and differ. The parameters after these are fields, of
 /// any number and with any values.
 ///
 /// BadGlobal comes with the index of the first faulty parameter, counted from 1: it is no field, tells no
-/// lawful delimiter or `comma` again, or has no delimiter behind it. Memory comes where memory is wanting.
+/// lawful delimiter or `comma` again, or has no delimiter after it. Memory comes when out of memory.
 pub fn read_global(alloc: Global, text: &[u8]) -> Result<GlobalText, GlobalFault>
     requires size { length text.now ≤ 2 ^ 25 }
     ensures found { IfOk result (IsGlobal text.now) }

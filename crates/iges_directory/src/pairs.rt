@@ -103,7 +103,7 @@ fn null_pair(alloc: Global) -> Result<Pair, DirFault>
     })
 }
 
-/// The fields of an entity of this type, behind so many parameter lines of other entities.
+/// The fields of an entity of this type, after so many parameter lines of other entities.
 #[tactic(auto, unfolding(crate::specs::DirectoryReading::entity_in))]
 fn entity_in(
     alloc: Global,
@@ -138,7 +138,7 @@ fn entity_in(
     })
 }
 
-/// The entry of a pair of lines, behind entries with so many parameter lines.
+/// The entry of a pair of lines, after entries with so many parameter lines.
 #[tactic(auto, unfolding(crate::specs::DirectoryReading::pair_in))]
 pub fn pair_in(
     alloc: Global,

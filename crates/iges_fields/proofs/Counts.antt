@@ -3,7 +3,7 @@ use Rattle.std.proofs.Common.{◌≡◌, ℕ, ◌+◌, ◌-◌, ◌^◌, ◌<◌
 use Rattle.std.proofs.lemmas.Bool.{cases_lt}
 use Rattle.std.proofs.lemmas.List.{drop-drop}
 use Rattle.solid_base.specs.Digits.{number_of}
-use Rattle.solid_base.specs.Spelling.{digit_count, behind_digits}
+use Rattle.solid_base.specs.Spelling.{digit_count, after_digits}
 use Rattle.iges_fields.specs.declared.faults.FieldFault.{FieldFault}
 use Rattle.iges_fields.specs.declared.readers.Found.{Found}
 use Rattle.iges_fields.specs.Reading.{is_counted, text_at, content_at}
@@ -18,18 +18,18 @@ text_at-min comma semi n m bytes small =
     ]
 
 -- where digits and H stand in front, a text does
-pub content_counted : (comma semi : ℕ) (bytes : List ℕ) → is_counted (digit_count bytes) (behind_digits bytes) ≡ true
+pub content_counted : (comma semi : ℕ) (bytes : List ℕ) → is_counted (digit_count bytes) (after_digits bytes) ≡ true
     → content_at comma semi bytes ≡ text_at comma semi (number_of (take (digit_count bytes) bytes)) (drop (digit_count bytes + 1) bytes)
 content_counted comma semi bytes h = rw h refl
 
 -- what the steps of reading a text give
-pub counted_gives : (comma semi : ℕ) (bytes digits behind part : List ℕ) (k count : ℕ) (r : Result Found FieldFault) → k ≡ digit_count bytes → digits ≡ take k bytes → behind ≡ drop k bytes
-    → is_counted k behind ≡ true → count ≡ min (number_of digits) (2 ^ 64 - 1) → part ≡ drop 1 behind → length part < 2 ^ 64 - 1 → Gives r (text_at comma semi count part) → Gives r (content_at comma semi bytes)
-counted_gives comma semi bytes digits behind part k count r e d t is n p small h =
+pub counted_gives : (comma semi : ℕ) (bytes digits after part : List ℕ) (k count : ℕ) (r : Result Found FieldFault) → k ≡ digit_count bytes → digits ≡ take k bytes → after ≡ drop k bytes
+    → is_counted k after ≡ true → count ≡ min (number_of digits) (2 ^ 64 - 1) → part ≡ drop 1 after → length part < 2 ^ 64 - 1 → Gives r (text_at comma semi count part) → Gives r (content_at comma semi bytes)
+counted_gives comma semi bytes digits after part k count r e d t is n p small h =
     let front : digits ≡ take (digit_count bytes) bytes = d ∙ ap (λ j. take j bytes) e in
-    let back : behind ≡ drop (digit_count bytes) bytes = t ∙ ap (λ j. drop j bytes) e in
+    let back : after ≡ drop (digit_count bytes) bytes = t ∙ ap (λ j. drop j bytes) e in
     let tail : part ≡ drop (digit_count bytes + 1) bytes = p ∙ ap (drop 1) back ∙ drop-drop 1 (digit_count bytes) bytes in
-    let here : is_counted (digit_count bytes) (behind_digits bytes) ≡ true = rw (sym back, sym e) is in
+    let here : is_counted (digit_count bytes) (after_digits bytes) ≡ true = rw (sym back, sym e) is in
     let read : text_at comma semi count part ≡ content_at comma semi bytes =
     ap (λ j. text_at comma semi j part) n ∙ text_at-min comma semi (number_of digits) (2 ^ 64 - 1) part small ∙ ap (λ j. text_at comma semi (number_of j) part) front
     ∙ ap (λ j. text_at comma semi (number_of (take (digit_count bytes) bytes)) j) tail ∙ sym (content_counted comma semi bytes here) in

@@ -5,7 +5,7 @@ use Rattle.std.proofs.lemmas.List.{take-append-drop, drop-drop}
 use Rattle.std.proofs.lemmas.List.Folds.{length-prefix_len}
 use Rattle.std.proofs.lemmas.Bool.Decides.{nat_tests}
 use Rattle.solid_base.specs.Digits.{is_digit, number_of}
-use Rattle.solid_base.specs.Spelling.{is_blank, AreBlanks, behind_blanks, before_blanks, digit_count, behind_digits, class_of, Spelling}
+use Rattle.solid_base.specs.Spelling.{is_blank, AreBlanks, after_blanks, before_blanks, digit_count, after_digits, class_of, Spelling}
 use Rattle.solid_base.specs.Spelling as spelling
 use Rattle.solid_base.proofs.Prefix.{both, front_passes}
 use Rattle.solid_base.proofs.Numerals.{empty_is_spelt, whole_is_spelt, real_is_spelt}
@@ -25,12 +25,12 @@ record Fits (comma semi : ℕ) (text : List ℕ) (read : Result Reading FieldFau
   content : List ℕ
   before : List ℕ
   spelt : List ℕ
-  behind : List ℕ
+  after : List ℕ
   end : List ℕ
   blank_before : AreBlanks before
   spells : IsSpelling kind content spelt
-  blank_behind : AreBlanks behind
-  is : text ≡ before ++ (spelt ++ (behind ++ end))
+  blank_after : AreBlanks after
+  is : text ≡ before ++ (spelt ++ (after ++ end))
   gives : read ≡ delimited comma semi kind content end
 
 -- a text is cut so, or it runs past its end, or it begins with no field
@@ -50,17 +50,17 @@ not_zero n h = grind (arith, nat_tests)
 is_h : (b : ℕ) → (b == 72) ≡ true → b ≡ 72
 is_h b h = grind (arith, nat_tests)
 
-record IsCounted (count : ℕ) (behind : List ℕ) : Type 0 where
+record IsCounted (count : ℕ) (after : List ℕ) : Type 0 where
   some : 0 < count
-  is : behind ≡ 72 ∷ drop 1 behind
+  is : after ≡ 72 ∷ drop 1 after
 
-counted_back : (count : ℕ) (behind : List ℕ) → is_counted count behind ≡ true → IsCounted count behind
+counted_back : (count : ℕ) (after : List ℕ) → is_counted count after ≡ true → IsCounted count after
 counted_back count [] h = cc
 counted_back count (b ∷ bs) h =
     let (some, e) = both (not (count == 0)) (b == 72) h in
     record { some = not_zero count some; is = ap (λ (x : ℕ). x ∷ bs) (is_h b e) }
 
-text_cut : (comma semi : ℕ) (before bytes : List ℕ) → AreBlanks before → is_counted (digit_count bytes) (behind_digits bytes) ≡ true
+text_cut : (comma semi : ℕ) (before bytes : List ℕ) → AreBlanks before → is_counted (digit_count bytes) (after_digits bytes) ≡ true
     → Cut comma semi (before ++ bytes) (text_at comma semi (number_of (take (digit_count bytes) bytes)) (drop (digit_count bytes + 1) bytes))
 text_cut comma semi before bytes blank h = go (nat_lt (length body) n) refl where
   ds : List ℕ
@@ -74,18 +74,18 @@ text_cut comma semi before bytes blank h = go (nat_lt (length body) n) refl wher
 
   whole : bytes ≡ ds ++ 72 ∷ body
   whole =
-      let c = counted_back (digit_count bytes) (behind_digits bytes) h in
+      let c = counted_back (digit_count bytes) (after_digits bytes) h in
       sym (take-append-drop (digit_count bytes) bytes) ∙ ap (λ (t : List ℕ). ds ++ t) (c.is ∙ ap (λ (t : List ℕ). 72 ∷ t) (drop-drop 1 (digit_count bytes) bytes))
 
   go : (v : Bool) → nat_lt (length body) n ≡ v
-      → Cut comma semi (before ++ bytes) (cond v (Err fault.BadText) (delimited comma semi kind.Text (take n body) (behind_blanks (drop n body))))
+      → Cut comma semi (before ++ bytes) (cond v (Err fault.BadText) (delimited comma semi kind.Text (take n body) (after_blanks (drop n body))))
   go true e = inr (inl (record { before = before; digits = ds; bytes = body; blank_before = blank; are_digits = front_passes is_digit bytes; past = is_past n (length body) e; is = ap (λ (t : List ℕ). before ++ t) whole }, refl))
   go false e =
-      let c = counted_back (digit_count bytes) (behind_digits bytes) h in
+      let c = counted_back (digit_count bytes) (after_digits bytes) h in
       let within = is_within n (length body) e in
       let rest = drop n body in
       let gap = take (prefix_len is_blank rest) rest in
-      let end = behind_blanks rest in
+      let end = after_blanks rest in
       let cut : body ≡ take n body ++ (gap ++ end) = sym (take-append-drop n body) ∙ ap (λ (t : List ℕ). take n body ++ t) (sym (take-append-drop (prefix_len is_blank rest) rest)) in
       let glue : bytes ≡ (ds ++ 72 ∷ take n body) ++ (gap ++ end) =
       whole ∙ ap (λ (t : List ℕ). ds ++ 72 ∷ t) cut ∙ sym (append_assoc ds (72 ∷ take n body) (gap ++ end)) in
@@ -94,11 +94,11 @@ text_cut comma semi before bytes blank h = go (nat_lt (length body) n) refl wher
         content = take n body;
         before = before;
         spelt = ds ++ 72 ∷ take n body;
-        behind = gap;
+        after = gap;
         end = end;
         blank_before = blank;
         spells = record { digits = ds; are_digits = front_passes is_digit bytes; some = rw (length-prefix_len is_digit bytes) c.some; counts = sym (length-take-le n body within); is = refl };
-        blank_behind = front_passes is_blank rest;
+        blank_after = front_passes is_blank rest;
         is = ap (λ (t : List ℕ). before ++ t) glue;
         gives = refl;
       })
@@ -122,24 +122,24 @@ word_cut comma semi before bytes blank = go (kind_of (class_of w)) refl where
   go None e = inr (inr refl)
   go (Some k) e =
       let t = trimmed (take n bytes) in
-      let glue : bytes ≡ w ++ (t.behind ++ drop n bytes) = sym (take-append-drop n bytes) ∙ ap (λ (x : List ℕ). x ++ drop n bytes) t.is ∙ append_assoc w t.behind (drop n bytes) in
+      let glue : bytes ≡ w ++ (t.after ++ drop n bytes) = sym (take-append-drop n bytes) ∙ ap (λ (x : List ℕ). x ++ drop n bytes) t.is ∙ append_assoc w t.after (drop n bytes) in
       inl (record {
         kind = k;
         content = w;
         before = before;
         spelt = w;
-        behind = t.behind;
+        after = t.after;
         end = drop n bytes;
         blank_before = blank;
         spells = kind_spells (class_of w) w k refl e;
-        blank_behind = t.blank;
+        blank_after = t.blank;
         is = ap (λ (x : List ℕ). before ++ x) glue;
         gives = refl;
       })
 
 content_cut : (comma semi : ℕ) (before bytes : List ℕ) → AreBlanks before → Cut comma semi (before ++ bytes) (content_at comma semi bytes)
-content_cut comma semi before bytes blank = go (is_counted (digit_count bytes) (behind_digits bytes)) refl where
-  go : (v : Bool) → is_counted (digit_count bytes) (behind_digits bytes) ≡ v
+content_cut comma semi before bytes blank = go (is_counted (digit_count bytes) (after_digits bytes)) refl where
+  go : (v : Bool) → is_counted (digit_count bytes) (after_digits bytes) ≡ v
       → Cut comma semi (before ++ bytes) (cond v (text_at comma semi (number_of (take (digit_count bytes) bytes)) (drop (digit_count bytes + 1) bytes)) (word_at comma semi bytes))
   go true e = text_cut comma semi before bytes blank e
   go false e = word_cut comma semi before bytes blank
@@ -148,7 +148,7 @@ field_cut : (comma semi : ℕ) (text : List ℕ) → Cut comma semi text (field_
 unfolding field_at
 field_cut comma semi text =
     let n = prefix_len is_blank text in
-    subst (λ (t : List ℕ). Cut comma semi t (content_at comma semi (behind_blanks text))) (take-append-drop n text) (content_cut comma semi (take n text) (behind_blanks text) (front_passes is_blank text))
+    subst (λ (t : List ℕ). Cut comma semi t (content_at comma semi (after_blanks text))) (take-append-drop n text) (content_cut comma semi (take n text) (after_blanks text) (front_passes is_blank text))
 
 -- ---- what stands where a delimiter must
 record IsDelimited (comma semi : ℕ) (k : FieldKind) (content end : List ℕ) (f : Reading) : Type 0 where
@@ -168,11 +168,11 @@ delimited_back comma semi k content (b ∷ rest) f h = go (b == comma) (b == sem
   same : (v : Bool) → b ≡ delimiter comma semi v → at v ≡ f → IsDelimited comma semi k content (b ∷ rest) f
   same v e is =
       let ended : v ≡ f.ended = ap (λ (x : Reading). x.ended) is in
-      let behind : rest ≡ f.rest = ap (λ (x : Reading). x.rest) is in
+      let after : rest ≡ f.rest = ap (λ (x : Reading). x.rest) is in
       record {
         same_kind = ap (λ (x : Reading). x.kind) is;
         same_content = ap (λ (x : Reading). x.text) is;
-        is = ap (λ (x : ℕ). x ∷ rest) (e ∙ ap (delimiter comma semi) ended) ∙ ap (λ (t : List ℕ). delimiter comma semi f.ended ∷ t) behind;
+        is = ap (λ (x : ℕ). x ∷ rest) (e ∙ ap (delimiter comma semi) ended) ∙ ap (λ (t : List ℕ). delimiter comma semi f.ended ∷ t) after;
       }
 
   go : (v w : Bool) → (b == comma) ≡ v → (b == semi) ≡ w → cond v (Ok (at false)) (cond w (Ok (at true)) (Err fault.BadToken)) ≡ Ok f → IsDelimited comma semi k content (b ∷ rest) f
@@ -209,7 +209,7 @@ read_is_spelt comma semi text f h =
       | inl c ↦ (
           let d = delimited_back comma semi c.kind c.content c.end f (sym c.gives ∙ h) in
           let spells = subst (λ (k : FieldKind). IsSpelling k f.text c.spelt) d.same_kind (subst (λ (t : List ℕ). IsSpelling c.kind t c.spelt) d.same_content c.spells) in
-          record { before = c.before; spelt = c.spelt; behind = c.behind; blank_before = c.blank_before; spells = spells; blank_behind = c.blank_behind; is = c.is ∙ ap (λ (t : List ℕ). c.before ++ (c.spelt ++ (c.behind ++ t))) d.is }
+          record { before = c.before; spelt = c.spelt; after = c.after; blank_before = c.blank_before; spells = spells; blank_after = c.blank_after; is = c.is ∙ ap (λ (t : List ℕ). c.before ++ (c.spelt ++ (c.after ++ t))) d.is }
           )
       | inr (inl p) ↦ (let e : Err fault.BadText ≡ Ok f = sym p.1 ∙ h in cc)
       | inr (inr p) ↦ (let e : Err fault.BadToken ≡ Ok f = sym p ∙ h in cc)
@@ -233,11 +233,11 @@ open_is_spelt comma semi text h =
             content = c.content;
             before = c.before;
             spelt = c.spelt;
-            behind = c.behind;
+            after = c.after;
             blank_before = c.blank_before;
             spells = c.spells;
-            blank_behind = c.blank_behind;
-            is = c.is ∙ ap (λ (t : List ℕ). c.before ++ (c.spelt ++ (c.behind ++ t))) e ∙ ap (λ (t : List ℕ). c.before ++ (c.spelt ++ t)) (append-nil c.behind);
+            blank_after = c.blank_after;
+            is = c.is ∙ ap (λ (t : List ℕ). c.before ++ (c.spelt ++ (c.after ++ t))) e ∙ ap (λ (t : List ℕ). c.before ++ (c.spelt ++ t)) (append-nil c.after);
           }
           )
       | inr (inl p) ↦ (let e : ◌≡◌ {A = Result Reading FieldFault} (Err fault.BadText) (Err fault.NoEnd) = sym p.1 ∙ h in cc)
@@ -259,13 +259,13 @@ none_is_token comma semi text none = go (field_at comma semi text) refl where
   go (Err fault.BadToken) h = refl
   go (Err fault.NoEnd) h = absurd (none.no_open (open_is_spelt comma semi text h))
 
--- what stands behind a field is shorter than the text: the measure of a loop over a reader
+-- what stands after a field is shorter than the text: the measure of a loop over a reader
 pub field_shorter : (comma semi : ℕ) (text : List ℕ) (f : Reading) → field_at comma semi text ≡ Ok f → length f.rest < length text
 field_shorter comma semi text f h =
     let is = read_is_spelt comma semi text f h in
     let end : List ℕ = delimiter comma semi f.ended ∷ f.rest in
     let whole = ap (length {A = ℕ}) is.is in
-    let a = length-append is.before (is.spelt ++ (is.behind ++ end)) in
-    let b = length-append is.spelt (is.behind ++ end) in
-    let c = length-append is.behind end in
+    let a = length-append is.before (is.spelt ++ (is.after ++ end)) in
+    let b = length-append is.spelt (is.after ++ end) in
+    let c = length-append is.after end in
     omega (arith, whole, a, b, c)

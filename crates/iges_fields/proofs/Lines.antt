@@ -34,38 +34,38 @@ piece_again comma semi g t more ended law h s =
     let d = delimiter comma semi ended in
     let glue : (replicate g 32 ++ (spelling_of_token t ++ d ∷ [])) ++ more ≡ replicate g 32 ++ (spelling_of_token t ++ d ∷ more) = simp append_assoc in
     spelt_is_read comma semi ((replicate g 32 ++ piece d t) ++ more) (field_of t more ended) law
-    (record { before = replicate g 32; spelt = spelling_of_token t; behind = []; blank_before = blanks g; spells = spells t h s; blank_behind = tt; is = glue })
+    (record { before = replicate g 32; spelt = spelling_of_token t; after = []; blank_before = blanks g; spells = spells t h s; blank_after = tt; is = glue })
 
-pub laid_reads : (width comma semi used : ℕ) (t : Token) (ts : List Token) (behind : List ℕ) → AreDelimiters comma semi → AreSpelt (t ∷ ts) → AreHeld (t ∷ ts)
-    → Reads comma semi (laid width comma semi used (t ∷ ts) ++ behind) (t ∷ ts)
+pub laid_reads : (width comma semi used : ℕ) (t : Token) (ts : List Token) (after : List ℕ) → AreDelimiters comma semi → AreSpelt (t ∷ ts) → AreHeld (t ∷ ts)
+    → Reads comma semi (laid width comma semi used (t ∷ ts) ++ after) (t ∷ ts)
 unfolding laid
-laid_reads width comma semi used t [] behind law h s =
+laid_reads width comma semi used t [] after law h s =
     let p = placed width used (piece semi t) in
-    let glue : (p ++ []) ++ behind ≡ p ++ behind = ap (λ (x : List ℕ). x ++ behind) (append-nil p) in
-    (behind, ap (field_at comma semi) glue ∙ piece_again comma semi (gap width used (length (piece semi t))) t behind true law h.0 s.0)
-laid_reads width comma semi used t (u ∷ ts) behind law h s =
+    let glue : (p ++ []) ++ after ≡ p ++ after = ap (λ (x : List ℕ). x ++ after) (append-nil p) in
+    (after, ap (field_at comma semi) glue ∙ piece_again comma semi (gap width used (length (piece semi t))) t after true law h.0 s.0)
+laid_reads width comma semi used t (u ∷ ts) after law h s =
     let p = placed width used (piece comma t) in
     let more = laid width comma semi (used + length p) (u ∷ ts) in (
-      more ++ behind,
-      ap (field_at comma semi) (append_assoc p more behind) ∙ piece_again comma semi (gap width used (length (piece comma t))) t (more ++ behind) false law h.0 s.0,
-      laid_reads width comma semi (used + length p) u ts behind law h.1 s.1,
+      more ++ after,
+      ap (field_at comma semi) (append_assoc p more after) ∙ piece_again comma semi (gap width used (length (piece comma t))) t (more ++ after) false law h.0 s.0,
+      laid_reads width comma semi (used + length p) u ts after law h.1 s.1,
     )
 
-pub some_tokens : (width comma semi : ℕ) (ts : List Token) (behind : List ℕ) → 0 < length ts → AreDelimiters comma semi → AreSpelt ts → AreHeld ts → Reads comma semi (laid width comma semi 0 ts ++ behind) ts
-some_tokens width comma semi [] behind some law h s = absurd (omega arith)
-some_tokens width comma semi (t ∷ ts) behind some law h s = laid_reads width comma semi 0 t ts behind law h s
+pub some_tokens : (width comma semi : ℕ) (ts : List Token) (after : List ℕ) → 0 < length ts → AreDelimiters comma semi → AreSpelt ts → AreHeld ts → Reads comma semi (laid width comma semi 0 ts ++ after) ts
+some_tokens width comma semi [] after some law h s = absurd (omega arith)
+some_tokens width comma semi (t ∷ ts) after some law h s = laid_reads width comma semi 0 t ts after law h s
 
-pub lines_read : (width comma semi : ℕ) (ts : List Token) (lines : List (List ℕ)) (behind : List ℕ) → 0 < length ts → AreDelimiters comma semi → AreSpelt ts → AreHeld ts → AreLines width (laid width comma semi 0 ts) lines
-    → Reads comma semi (concat lines ++ behind) ts
-lines_read width comma semi ts lines behind some law h s is =
+pub lines_read : (width comma semi : ℕ) (ts : List Token) (lines : List (List ℕ)) (after : List ℕ) → 0 < length ts → AreDelimiters comma semi → AreSpelt ts → AreHeld ts → AreLines width (laid width comma semi 0 ts) lines
+    → Reads comma semi (concat lines ++ after) ts
+lines_read width comma semi ts lines after some law h s is =
     let text = laid width comma semi 0 ts in
     let fill = replicate is.blanks 32 in
-    let glue : concat lines ++ behind ≡ text ++ (fill ++ behind) = ap (λ (x : List ℕ). x ++ behind) is.joined ∙ append_assoc text fill behind in
-    subst (λ (x : List ℕ). Reads comma semi x ts) (sym glue) (some_tokens width comma semi ts (fill ++ behind) some law h s)
+    let glue : concat lines ++ after ≡ text ++ (fill ++ after) = ap (λ (x : List ℕ). x ++ after) is.joined ∙ append_assoc text fill after in
+    subst (λ (x : List ℕ). Reads comma semi x ts) (sym glue) (some_tokens width comma semi ts (fill ++ after) some law h s)
 
 pub lines_back : (width comma semi : ℕ) (ts : List Token) (text : List ℕ) (r : Result (List (List ℕ)) AllocError) → 0 < length ts → AreDelimiters comma semi → AreSpelt ts → AreHeld ts → text ≡ laid width comma semi 0 ts
-    → IfOk r (AreLines width text) → IfOk r (λ lines. (behind : List ℕ) → Reads comma semi (concat lines ++ behind) ts)
-lines_back width comma semi ts text (Ok lines) some law h s is l = λ behind. lines_read width comma semi ts lines behind some law h s (subst (λ (x : List ℕ). AreLines width x lines) is l)
+    → IfOk r (AreLines width text) → IfOk r (λ lines. (after : List ℕ) → Reads comma semi (concat lines ++ after) ts)
+lines_back width comma semi ts text (Ok lines) some law h s is l = λ after. lines_read width comma semi ts lines after some law h s (subst (λ (x : List ℕ). AreLines width x lines) is l)
 lines_back width comma semi ts text (Err e) some law h s is l = tt
 
 -- ---- the steps of laying
@@ -115,7 +115,7 @@ held_more (suc k) (t ∷ ts) e lt h s =
     rw size (h.0, more)
 
 -- ---- cutting into lines
--- lines that hold a text up to a rest; where there is a rest no blanks stand behind the last line
+-- lines that hold a text up to a rest; where there is a rest no blanks stand after the last line
 pub record IsCutTo (width : ℕ) (text rest : List ℕ) (lines : List (List ℕ)) : Type 0 where
   pub wide : AllByRecursion (λ line. length line ≡ width) lines
   pub blanks : ℕ
@@ -130,32 +130,32 @@ wide_more : (width : ℕ) (lines : List (List ℕ)) (line : List ℕ) → AllByR
 wide_more width [] line all h = (h, tt)
 wide_more width (l ∷ lines) line all h = (all.0, wide_more width lines line all.1 h)
 
--- blanks where nothing stands behind, or nothing where bytes do
-swapped : (fill : ℕ) (behind : List ℕ) → (0 < length behind → fill ≡ 0) → replicate fill 32 ++ behind ≡ behind ++ replicate fill 32
+-- blanks where nothing stands after, or nothing where bytes do
+swapped : (fill : ℕ) (after : List ℕ) → (0 < length after → fill ≡ 0) → replicate fill 32 ++ after ≡ after ++ replicate fill 32
 swapped fill [] h = append-nil (replicate fill 32)
 swapped fill (b ∷ bs) h =
     let none : fill ≡ 0 = h (omega arith) in
     ap (λ (n : ℕ). replicate n 32 ++ (b ∷ bs)) none ∙ sym (append-nil (b ∷ bs)) ∙ ap (λ (n : ℕ). (b ∷ bs) ++ replicate n 32) (sym none)
 
-pub cut_more : (width k : ℕ) (text rest front behind line : List ℕ) (lines : List (List ℕ)) → 0 < width → 0 < length rest → k ≡ min (length rest) width → front ≡ take k rest → behind ≡ drop k rest
-    → line ≡ front ++ replicate (width - length front) 32 → IsCutTo width text rest lines → IsCutTo width text behind (lines ++ line ∷ [])
-cut_more width k text rest front behind line lines some more kk f b l h =
+pub cut_more : (width k : ℕ) (text rest front after line : List ℕ) (lines : List (List ℕ)) → 0 < width → 0 < length rest → k ≡ min (length rest) width → front ≡ take k rest → after ≡ drop k rest
+    → line ≡ front ++ replicate (width - length front) 32 → IsCutTo width text rest lines → IsCutTo width text after (lines ++ line ∷ [])
+cut_more width k text rest front after line lines some more kk f b l h =
     let size : length front ≡ k = ap (length {A = ℕ}) f ∙ length-take-le k rest (omega arith) in
-    let left : length behind ≡ length rest - k = ap (length {A = ℕ}) b ∙ length-drop k rest in
+    let left : length after ≡ length rest - k = ap (length {A = ℕ}) b ∙ length-drop k rest in
     let fill = width - length front in
-    let open_end : 0 < length behind → fill ≡ 0 = λ lt. omega (arith, size, left, lt) in
+    let open_end : 0 < length after → fill ≡ 0 = λ lt. omega (arith, size, left, lt) in
     let none : h.blanks ≡ 0 = h.open_end more in
     let so_far : concat lines ++ rest ≡ text = h.joined ∙ ap (λ (n : ℕ). text ++ replicate n 32) none ∙ append-nil text in
-    let whole : front ++ behind ≡ rest = ap (λ (x : List ℕ). x ++ behind) f ∙ ap (λ (x : List ℕ). take k rest ++ x) b ∙ take-append-drop k rest in
+    let whole : front ++ after ≡ rest = ap (λ (x : List ℕ). x ++ after) f ∙ ap (λ (x : List ℕ). take k rest ++ x) b ∙ take-append-drop k rest in
     let last : concat (lines ++ line ∷ []) ≡ concat lines ++ line = concat-append lines (line ∷ []) ∙ ap (λ (x : List ℕ). concat lines ++ x) (append-nil line) in
     record {
       wide = wide_more width lines line h.wide (ap (length {A = ℕ}) l ∙ length-append front (replicate fill 32) ∙ (let r = length-replicate {A = ℕ} fill 32 in omega (arith, r, size)));
       blanks = fill;
       few = omega (arith, size);
       open_end = open_end;
-      joined = ap (λ (x : List ℕ). x ++ behind) (last ∙ ap (λ (x : List ℕ). concat lines ++ x) l)
-          ∙ append_assoc (concat lines) (front ++ replicate fill 32) behind
-          ∙ ap (λ (x : List ℕ). concat lines ++ x) (append_assoc front (replicate fill 32) behind ∙ ap (λ (x : List ℕ). front ++ x) (swapped fill behind open_end) ∙ sym (append_assoc front behind (replicate fill 32)))
+      joined = ap (λ (x : List ℕ). x ++ after) (last ∙ ap (λ (x : List ℕ). concat lines ++ x) l)
+          ∙ append_assoc (concat lines) (front ++ replicate fill 32) after
+          ∙ ap (λ (x : List ℕ). concat lines ++ x) (append_assoc front (replicate fill 32) after ∙ ap (λ (x : List ℕ). front ++ x) (swapped fill after open_end) ∙ sym (append_assoc front after (replicate fill 32)))
           ∙ ap (λ (x : List ℕ). concat lines ++ (x ++ replicate fill 32)) whole
           ∙ sym (append_assoc (concat lines) rest (replicate fill 32))
           ∙ ap (λ (x : List ℕ). x ++ replicate fill 32) so_far;

@@ -34,9 +34,9 @@ count_past_the_end : field_at 44 59 (codes "4Habc") ≡ Err fault.BadText
 unfolding field_at
 count_past_the_end = refl
 
-bytes_behind_a_text : field_at 44 59 (codes "2Habc,") ≡ Err fault.BadToken
+bytes_after_a_text : field_at 44 59 (codes "2Habc,") ≡ Err fault.BadToken
 unfolding field_at
-bytes_behind_a_text = refl
+bytes_after_a_text = refl
 
 no_field_and_no_end : field_at 44 59 (codes "1.2.3") ≡ Err fault.BadToken
 unfolding field_at
@@ -46,7 +46,7 @@ nothing_at_all : field_at 44 59 [] ≡ Err fault.NoEnd
 unfolding field_at
 nothing_at_all = refl
 
--- in lines of eight columns: the second token fits exactly, the fourth is longer than a line, and the last does not fit behind it
+-- in lines of eight columns: the second token fits exactly, the fourth is longer than a line, and the last does not fit after it
 lines_of_eight : laid 8 44 59 0 (token.Whole (codes "158") ∷ token.Whole (codes "123") ∷ token.Empty ∷ token.Real (codes "1.234567") ∷ token.Whole (codes "1234567") ∷ [])
     ≡ codes "158,123,,       1.234567,       1234567;"
 unfolding laid

@@ -3,7 +3,7 @@ use Rattle.std.proofs.Common.{◌≡◌, ◌≢◌, ℕ, ◌+◌, ◌<◌, List,
 use Rattle.std.specs.List.{prefix_len}
 use Rattle.std.proofs.Math.Seq.{take-append_seam, drop-append_seam, drop-append-add}
 use Rattle.solid_base.specs.Digits.{is_digit, AreDigits, number_of}
-use Rattle.solid_base.specs.Spelling.{is_blank, AreBlanks, behind_blanks, before_blanks, digit_count, behind_digits, class_of}
+use Rattle.solid_base.specs.Spelling.{is_blank, AreBlanks, after_blanks, before_blanks, digit_count, after_digits, class_of}
 use Rattle.solid_base.proofs.Prefix.{AllPass, prefix_upto, front_upto, rest_upto}
 use Rattle.solid_base.proofs.Numerals.{whole_is_read, real_is_read}
 use Rattle.iges_fields.specs.declared.kinds.FieldKind.{FieldKind}
@@ -17,25 +17,25 @@ use Rattle.iges_fields.proofs.Counts.{content_counted}
 use Rattle.iges_fields.proofs.Ends.{before_blanks_again, Stops, nothing_stops, delimiter_stops, blanks_no_digit, blanks_no_count, no_count, blanks_skipped}
 
 -- ---- a number, or nothing
-word_again : (comma semi : ℕ) (w behind end : List ℕ) → AreDelimiters comma semi → AllPass is_numeric w → AreBlanks behind → Stops comma semi end
-    → content_at comma semi (w ++ (behind ++ end)) ≡ of_kind comma semi (kind_of (class_of w)) w end
-word_again comma semi w behind end law all blank stops =
-    let bytes : List ℕ = w ++ (behind ++ end) in
+word_again : (comma semi : ℕ) (w after end : List ℕ) → AreDelimiters comma semi → AllPass is_numeric w → AreBlanks after → Stops comma semi end
+    → content_at comma semi (w ++ (after ++ end)) ≡ of_kind comma semi (kind_of (class_of w)) w end
+word_again comma semi w after end law all blank stops =
+    let bytes : List ℕ = w ++ (after ++ end) in
     let c = lawful_parts comma law.0 in
     let s = lawful_parts semi law.1 in
     let p : ℕ → Bool = λ b. not (is_delimiter comma semi b) in
-    let none : is_counted (digit_count bytes) (behind_digits bytes) ≡ false =
-    no_count (digit_count bytes) w (behind ++ end) all (blanks_no_digit comma semi behind end blank stops) (blanks_no_count comma semi (digit_count bytes) behind end blank stops) in
-    let open_bytes : AllPass p (w ++ behind) =
-    all_append p w behind (all_weaker is_numeric p (λ b h. no_delimiter comma semi b is_numeric c.numeric s.numeric h) w all)
-    (all_weaker is_blank p (λ b h. no_delimiter comma semi b is_blank c.blank s.blank h) behind blank) in
-    let glue : (w ++ behind) ++ end ≡ bytes = append_assoc w behind end in
-    let front : take (bytes_before comma semi bytes) bytes ≡ w ++ behind = ap (λ (t : List ℕ). take (bytes_before comma semi t) t) (sym glue) ∙ front_upto p (w ++ behind) end open_bytes stops.before in
-    let back : drop (bytes_before comma semi bytes) bytes ≡ end = ap (λ (t : List ℕ). drop (bytes_before comma semi t) t) (sym glue) ∙ rest_upto p (w ++ behind) end open_bytes stops.before in
+    let none : is_counted (digit_count bytes) (after_digits bytes) ≡ false =
+    no_count (digit_count bytes) w (after ++ end) all (blanks_no_digit comma semi after end blank stops) (blanks_no_count comma semi (digit_count bytes) after end blank stops) in
+    let open_bytes : AllPass p (w ++ after) =
+    all_append p w after (all_weaker is_numeric p (λ b h. no_delimiter comma semi b is_numeric c.numeric s.numeric h) w all)
+    (all_weaker is_blank p (λ b h. no_delimiter comma semi b is_blank c.blank s.blank h) after blank) in
+    let glue : (w ++ after) ++ end ≡ bytes = append_assoc w after end in
+    let front : take (bytes_before comma semi bytes) bytes ≡ w ++ after = ap (λ (t : List ℕ). take (bytes_before comma semi t) t) (sym glue) ∙ front_upto p (w ++ after) end open_bytes stops.before in
+    let back : drop (bytes_before comma semi bytes) bytes ≡ end = ap (λ (t : List ℕ). drop (bytes_before comma semi t) t) (sym glue) ∙ rest_upto p (w ++ after) end open_bytes stops.before in
     let one : content_at comma semi bytes ≡ word_at comma semi bytes = rw none refl in
     one
     ∙ ap (λ (t : List ℕ). of_kind comma semi (kind_of (class_of (before_blanks t))) (before_blanks t) (drop (bytes_before comma semi bytes) bytes)) front
-    ∙ ap (λ (t : List ℕ). of_kind comma semi (kind_of (class_of t)) t (drop (bytes_before comma semi bytes) bytes)) (before_blanks_again w behind all blank)
+    ∙ ap (λ (t : List ℕ). of_kind comma semi (kind_of (class_of t)) t (drop (bytes_before comma semi bytes) bytes)) (before_blanks_again w after all blank)
     ∙ ap (of_kind comma semi (kind_of (class_of w)) w) back
 
 -- ---- a text
@@ -49,7 +49,7 @@ text_begins comma semi ds bytes all some =
     let count : digit_count whole ≡ length ds = prefix_upto is_digit ds (72 ∷ bytes) all refl in
     let z = some_digits ds some in
     let back : drop (length ds) whole ≡ 72 ∷ bytes = drop-append_seam ds (72 ∷ bytes) in
-    let is : is_counted (digit_count whole) (behind_digits whole) ≡ true = rw (count, back, z) refl in
+    let is : is_counted (digit_count whole) (after_digits whole) ≡ true = rw (count, back, z) refl in
     let front : take (length ds) whole ≡ ds = take-append_seam ds (72 ∷ bytes) in
     let tail : drop (length ds + 1) whole ≡ bytes = drop-append-add ds (72 ∷ bytes) 1 in
     content_counted comma semi whole is
@@ -57,19 +57,19 @@ text_begins comma semi ds bytes all some =
     ∙ ap (λ (t : List ℕ). text_at comma semi (number_of t) (drop (length ds + 1) whole)) front
     ∙ ap (text_at comma semi (number_of ds)) tail
 
-text_again : (comma semi : ℕ) (content spelt behind end : List ℕ) → IsText content spelt → AreBlanks behind → Stops comma semi end
-    → content_at comma semi (spelt ++ (behind ++ end)) ≡ delimited comma semi kind.Text content end
-text_again comma semi content spelt behind end h blank stops =
-    let after : List ℕ = content ++ (behind ++ end) in
+text_again : (comma semi : ℕ) (content spelt after end : List ℕ) → IsText content spelt → AreBlanks after → Stops comma semi end
+    → content_at comma semi (spelt ++ (after ++ end)) ≡ delimited comma semi kind.Text content end
+text_again comma semi content spelt after end h blank stops =
+    let counted : List ℕ = content ++ (after ++ end) in
     let n = length content in
-    let glue : spelt ++ (behind ++ end) ≡ h.digits ++ 72 ∷ after = ap (λ (t : List ℕ). t ++ (behind ++ end)) h.is ∙ append_assoc h.digits (72 ∷ content) (behind ++ end) in
-    let fits : nat_lt (length after) n ≡ false = (let l = length-append content (behind ++ end) in grind (arith, l)) in
-    let last : text_at comma semi n after ≡ delimited comma semi kind.Text content end =
+    let glue : spelt ++ (after ++ end) ≡ h.digits ++ 72 ∷ counted = ap (λ (t : List ℕ). t ++ (after ++ end)) h.is ∙ append_assoc h.digits (72 ∷ content) (after ++ end) in
+    let fits : nat_lt (length counted) n ≡ false = (let l = length-append content (after ++ end) in grind (arith, l)) in
+    let last : text_at comma semi n counted ≡ delimited comma semi kind.Text content end =
     rw fits
-    (ap (λ (t : List ℕ). delimited comma semi kind.Text t (behind_blanks (drop n after))) (take-append_seam content (behind ++ end))
-    ∙ ap (λ (t : List ℕ). delimited comma semi kind.Text content (behind_blanks t)) (drop-append_seam content (behind ++ end))
-    ∙ ap (delimited comma semi kind.Text content) (blanks_skipped behind end blank stops.blank)) in
-    ap (content_at comma semi) glue ∙ text_begins comma semi h.digits after h.are_digits h.some ∙ ap (λ (j : ℕ). text_at comma semi j after) h.counts ∙ last
+    (ap (λ (t : List ℕ). delimited comma semi kind.Text t (after_blanks (drop n counted))) (take-append_seam content (after ++ end))
+    ∙ ap (λ (t : List ℕ). delimited comma semi kind.Text content (after_blanks t)) (drop-append_seam content (after ++ end))
+    ∙ ap (delimited comma semi kind.Text content) (blanks_skipped after end blank stops.blank)) in
+    ap (content_at comma semi) glue ∙ text_begins comma semi h.digits counted h.are_digits h.some ∙ ap (λ (j : ℕ). text_at comma semi j counted) h.counts ∙ last
 
 -- ---- any field
 -- a number begins with no blank
@@ -81,19 +81,19 @@ digits_first : (ds tail : List ℕ) → AreDigits ds → 0 < length ds → prefi
 digits_first [] tail all some = absurd (omega arith)
 digits_first (d ∷ ds) tail all some = rw (digit_no_blank d all.0) refl
 
-number_again : (comma semi : ℕ) (k : FieldKind) (w before behind end : List ℕ) → AreDelimiters comma semi → AllPass is_numeric w → 0 < length w → kind_of (class_of w) ≡ Some k → AreBlanks before → AreBlanks behind
-    → Stops comma semi end → field_at comma semi (before ++ (w ++ (behind ++ end))) ≡ delimited comma semi k w end
+number_again : (comma semi : ℕ) (k : FieldKind) (w before after end : List ℕ) → AreDelimiters comma semi → AllPass is_numeric w → 0 < length w → kind_of (class_of w) ≡ Some k → AreBlanks before → AreBlanks after
+    → Stops comma semi end → field_at comma semi (before ++ (w ++ (after ++ end))) ≡ delimited comma semi k w end
 unfolding field_at
-number_again comma semi k w before behind end law all some is blank_before blank_behind stops =
-    ap (content_at comma semi) (blanks_skipped before (w ++ (behind ++ end)) blank_before (number_first w (behind ++ end) all some))
-    ∙ word_again comma semi w behind end law all blank_behind stops ∙ ap (λ (o : Option FieldKind). of_kind comma semi o w end) is
+number_again comma semi k w before after end law all some is blank_before blank_after stops =
+    ap (content_at comma semi) (blanks_skipped before (w ++ (after ++ end)) blank_before (number_first w (after ++ end) all some))
+    ∙ word_again comma semi w after end law all blank_after stops ∙ ap (λ (o : Option FieldKind). of_kind comma semi o w end) is
 
-nothing_again : (comma semi : ℕ) (before behind end : List ℕ) → AreDelimiters comma semi → AreBlanks before → AreBlanks behind → Stops comma semi end
-    → field_at comma semi (before ++ (behind ++ end)) ≡ delimited comma semi kind.Empty [] end
+nothing_again : (comma semi : ℕ) (before after end : List ℕ) → AreDelimiters comma semi → AreBlanks before → AreBlanks after → Stops comma semi end
+    → field_at comma semi (before ++ (after ++ end)) ≡ delimited comma semi kind.Empty [] end
 unfolding field_at
-nothing_again comma semi before behind end law blank_before blank_behind stops =
-    ap (λ (t : List ℕ). content_at comma semi (behind_blanks t)) (sym (append_assoc before behind end))
-    ∙ ap (content_at comma semi) (blanks_skipped (before ++ behind) end (all_append is_blank before behind blank_before blank_behind) stops.blank)
+nothing_again comma semi before after end law blank_before blank_after stops =
+    ap (λ (t : List ℕ). content_at comma semi (after_blanks t)) (sym (append_assoc before after end))
+    ∙ ap (content_at comma semi) (blanks_skipped (before ++ after) end (all_append is_blank before after blank_before blank_after) stops.blank)
     ∙ word_again comma semi [] [] end law tt tt stops
 
 -- a spelt number has a byte
@@ -107,25 +107,25 @@ whole_not_empty e = cc
 real_not_empty : kind.Real ≢ kind.Empty
 real_not_empty e = cc
 
-pub field_again : (comma semi : ℕ) (k : FieldKind) (content spelt before behind end : List ℕ) → AreDelimiters comma semi → IsSpelling k content spelt → AreBlanks before → AreBlanks behind → Stops comma semi end
-    → field_at comma semi (before ++ (spelt ++ (behind ++ end))) ≡ delimited comma semi k content end
+pub field_again : (comma semi : ℕ) (k : FieldKind) (content spelt before after end : List ℕ) → AreDelimiters comma semi → IsSpelling k content spelt → AreBlanks before → AreBlanks after → Stops comma semi end
+    → field_at comma semi (before ++ (spelt ++ (after ++ end))) ≡ delimited comma semi k content end
 unfolding field_at
-field_again comma semi kind.Empty content spelt before behind end law h blank_before blank_behind stops =
-    ap (λ (t : List ℕ). field_at comma semi (before ++ (t ++ (behind ++ end)))) h.1 ∙ nothing_again comma semi before behind end law blank_before blank_behind stops
+field_again comma semi kind.Empty content spelt before after end law h blank_before blank_after stops =
+    ap (λ (t : List ℕ). field_at comma semi (before ++ (t ++ (after ++ end)))) h.1 ∙ nothing_again comma semi before after end law blank_before blank_after stops
     ∙ ap (λ (t : List ℕ). delimited comma semi kind.Empty t end) (sym h.0)
-field_again comma semi kind.Whole content spelt before behind end law h blank_before blank_behind stops =
+field_again comma semi kind.Whole content spelt before after end law h blank_before blank_after stops =
     let is = ap kind_of (whole_is_read content h.0) in
-    ap (λ (t : List ℕ). field_at comma semi (before ++ (t ++ (behind ++ end)))) h.1
-    ∙ number_again comma semi kind.Whole content before behind end law (whole_numeric content h.0) (read_some content kind.Whole is whole_not_empty) is blank_before blank_behind stops
-field_again comma semi kind.Real content spelt before behind end law h blank_before blank_behind stops =
+    ap (λ (t : List ℕ). field_at comma semi (before ++ (t ++ (after ++ end)))) h.1
+    ∙ number_again comma semi kind.Whole content before after end law (whole_numeric content h.0) (read_some content kind.Whole is whole_not_empty) is blank_before blank_after stops
+field_again comma semi kind.Real content spelt before after end law h blank_before blank_after stops =
     let is = ap kind_of (real_is_read content h.0) in
-    ap (λ (t : List ℕ). field_at comma semi (before ++ (t ++ (behind ++ end)))) h.1
-    ∙ number_again comma semi kind.Real content before behind end law (real_numeric content h.0) (read_some content kind.Real is real_not_empty) is blank_before blank_behind stops
-field_again comma semi kind.Text content spelt before behind end law h blank_before blank_behind stops =
-    let tail : List ℕ = behind ++ end in
+    ap (λ (t : List ℕ). field_at comma semi (before ++ (t ++ (after ++ end)))) h.1
+    ∙ number_again comma semi kind.Real content before after end law (real_numeric content h.0) (read_some content kind.Real is real_not_empty) is blank_before blank_after stops
+field_again comma semi kind.Text content spelt before after end law h blank_before blank_after stops =
+    let tail : List ℕ = after ++ end in
     let glue : spelt ++ tail ≡ h.digits ++ ((72 ∷ content) ++ tail) = ap (λ (t : List ℕ). t ++ tail) h.is ∙ append_assoc h.digits (72 ∷ content) tail in
     let first : prefix_len is_blank (spelt ++ tail) ≡ 0 = ap (prefix_len is_blank) glue ∙ digits_first h.digits ((72 ∷ content) ++ tail) h.are_digits h.some in
-    ap (content_at comma semi) (blanks_skipped before (spelt ++ tail) blank_before first) ∙ text_again comma semi content spelt behind end h blank_behind stops
+    ap (content_at comma semi) (blanks_skipped before (spelt ++ tail) blank_before first) ∙ text_again comma semi content spelt after end h blank_after stops
 
 -- ---- the laws
 delimited_again : (comma semi : ℕ) (f : Reading) → comma ≢ semi → delimited comma semi f.kind f.text (delimiter comma semi f.ended ∷ f.rest) ≡ Ok f
@@ -150,7 +150,7 @@ pub spelt_is_read : (comma semi : ℕ) (text : List ℕ) (f : Reading) → AreDe
 spelt_is_read comma semi text f law h =
     let end : List ℕ = delimiter comma semi f.ended ∷ f.rest in
     ap (field_at comma semi) h.is
-    ∙ field_again comma semi f.kind f.text h.spelt h.before h.behind end law h.spells h.blank_before h.blank_behind (delimiter_is comma semi f.rest f.ended law)
+    ∙ field_again comma semi f.kind f.text h.spelt h.before h.after end law h.spells h.blank_before h.blank_after (delimiter_is comma semi f.rest f.ended law)
     ∙ delimited_again comma semi f law.2
 
 pub past_is_read : (comma semi : ℕ) (text : List ℕ) → RunsPast text → field_at comma semi text ≡ Err fault.BadText
@@ -158,7 +158,7 @@ unfolding field_at
 past_is_read comma semi text h =
     let some : 0 < length h.digits = go h.digits h.past in
     let past : nat_lt (length h.bytes) (number_of h.digits) ≡ true = (let p = h.past in grind arith) in
-    ap (λ (t : List ℕ). content_at comma semi (behind_blanks t)) h.is
+    ap (λ (t : List ℕ). content_at comma semi (after_blanks t)) h.is
     ∙ ap (content_at comma semi) (blanks_skipped h.before (h.digits ++ 72 ∷ h.bytes) h.blank_before (digits_first h.digits (72 ∷ h.bytes) h.are_digits some))
     ∙ text_begins comma semi h.digits h.bytes h.are_digits some ∙ rw past refl where
       go : (ds : List ℕ) → length h.bytes < number_of ds → 0 < length ds
@@ -167,5 +167,5 @@ past_is_read comma semi text h =
 
 pub open_is_read : (comma semi : ℕ) (text : List ℕ) → AreDelimiters comma semi → IsOpen text → field_at comma semi text ≡ Err fault.NoEnd
 open_is_read comma semi text law h =
-    ap (field_at comma semi) (h.is ∙ ap (λ (t : List ℕ). h.before ++ (h.spelt ++ t)) (sym (append-nil h.behind)))
-    ∙ field_again comma semi h.kind h.content h.spelt h.before h.behind [] law h.spells h.blank_before h.blank_behind (nothing_stops comma semi)
+    ap (field_at comma semi) (h.is ∙ ap (λ (t : List ℕ). h.before ++ (h.spelt ++ t)) (sym (append-nil h.after)))
+    ∙ field_again comma semi h.kind h.content h.spelt h.before h.after [] law h.spells h.blank_before h.blank_after (nothing_stops comma semi)

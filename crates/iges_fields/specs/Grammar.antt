@@ -21,7 +21,7 @@ IsSpelling kind.Whole content spelt = IsWhole content × (spelt ≡ content)
 IsSpelling kind.Real content spelt = IsReal content × (spelt ≡ content)
 IsSpelling kind.Text content spelt = IsText content spelt
 
--- the delimiter behind a field: semi behind the last of a record, comma behind the others
+-- the delimiter after a field: semi after the last of a record, comma after the others
 abbrev pub delimiter : ℕ → ℕ → Bool → ℕ
 delimiter comma semi ended = cond ended semi comma
 
@@ -29,11 +29,11 @@ delimiter comma semi ended = cond ended semi comma
 pub record IsField (comma semi : ℕ) (text : List ℕ) (field : Reading) : Type 0 where
   pub before : List ℕ
   pub spelt : List ℕ
-  pub behind : List ℕ
+  pub after : List ℕ
   pub blank_before : AreBlanks before
   pub spells : IsSpelling field.kind field.text spelt
-  pub blank_behind : AreBlanks behind
-  pub is : text ≡ before ++ (spelt ++ (behind ++ delimiter comma semi field.ended ∷ field.rest))
+  pub blank_after : AreBlanks after
+  pub is : text ≡ before ++ (spelt ++ (after ++ delimiter comma semi field.ended ∷ field.rest))
 
 -- a text begins with blanks and the count of a text that runs past the end
 pub record RunsPast (text : List ℕ) : Type 0 where
@@ -45,17 +45,17 @@ pub record RunsPast (text : List ℕ) : Type 0 where
   pub past : length bytes < number_of digits
   pub is : text ≡ before ++ (digits ++ 72 ∷ bytes)
 
--- a text is a field with no delimiter behind it
+-- a text is a field with no delimiter after it
 pub record IsOpen (text : List ℕ) : Type 0 where
   pub kind : FieldKind
   pub content : List ℕ
   pub before : List ℕ
   pub spelt : List ℕ
-  pub behind : List ℕ
+  pub after : List ℕ
   pub blank_before : AreBlanks before
   pub spells : IsSpelling kind content spelt
-  pub blank_behind : AreBlanks behind
-  pub is : text ≡ before ++ (spelt ++ behind)
+  pub blank_after : AreBlanks after
+  pub is : text ≡ before ++ (spelt ++ after)
 
 -- a text begins with no field, with no count that runs past the end, and is no field without a delimiter
 pub record IsNoField (comma semi : ℕ) (text : List ℕ) : Type 0 where

@@ -54,12 +54,12 @@ AreHeld tokens = AllByRecursion IsHeld tokens
 abbrev pub field_of : Token → List ℕ → Bool → Reading
 field_of t rest ended = record { kind = kind_of_token t; text = content_of_token t; rest = rest; ended = ended }
 
--- whether no token stands behind
+-- whether no token stands after
 abbrev pub is_last : List Token → Bool
 is_last [] = true
 is_last (t ∷ ts) = false
 
--- the fields of a text are these tokens, and the record ends behind the last
+-- the fields of a text are these tokens, and the record ends after the last
 abbrev pub Reads : ℕ → ℕ → List ℕ → List Token → Type 0
 Reads comma semi text [] = ⊥
 Reads comma semi text (t ∷ []) = (rest : List ℕ) × (field_at comma semi text ≡ Ok (field_of t rest true))
@@ -67,7 +67,7 @@ Reads comma semi text (t ∷ u ∷ ts) = (rest : List ℕ) × (field_at comma se
 
 -- ---- lines
 
--- a token with the delimiter behind it
+-- a token with the delimiter after it
 abbrev pub piece : ℕ → Token → List ℕ
 piece d t = spelling_of_token t ++ d ∷ []
 
@@ -79,7 +79,7 @@ gap width used size = cond ((used % width == 0) || nat_le (used % width + size) 
 abbrev pub placed : ℕ → ℕ → List ℕ → List ℕ
 placed width used bytes = replicate (gap width used (length bytes)) 32 ++ bytes
 
--- tokens, one behind the other, where so many bytes are laid before them
+-- tokens, one after the other, where so many bytes are laid before them
 unfoldable pub laid : ℕ → ℕ → ℕ → ℕ → List Token → List ℕ
 laid width comma semi used [] = []
 laid width comma semi used (t ∷ ts) =

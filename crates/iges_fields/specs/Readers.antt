@@ -12,18 +12,18 @@ pub record Reader : Type 0 where
   pub semi : ℕ
   pub ended : Bool
 
--- the reader behind a field
-abbrev pub behind : Reader → Reading → Reader
-behind r f = record { rest = f.rest; comma = r.comma; semi = r.semi; ended = f.ended }
+-- the reader after a field
+abbrev pub after : Reader → Reading → Reader
+after r f = record { rest = f.rest; comma = r.comma; semi = r.semi; ended = f.ended }
 
 -- what one step returned, where reading gives this
 abbrev pub IsStep : Reader → Reader → Result (Option Field) FieldFault → Result Reading FieldFault → Type 0
 IsStep old new (Ok None) read = ⊥
-IsStep old new (Ok (Some field)) (Ok f) = (field.kind ≡ f.kind) × (field.text.now ≡ f.text) × (new ≡ behind old f)
+IsStep old new (Ok (Some field)) (Ok f) = (field.kind ≡ f.kind) × (field.text.now ≡ f.text) × (new ≡ after old f)
 IsStep old new (Ok (Some field)) (Err e) = ⊥
 IsStep old new (Err e) read = (read ≡ Err e) × (new ≡ old)
 
--- nothing behind the last field; else the next field, or its fault and the reader as it was
+-- nothing after the last field; else the next field, or its fault and the reader as it was
 abbrev pub IsNext : Reader → Reader → Result (Option Field) FieldFault → Type 0
 IsNext old new result = cond old.ended ((result ≡ Ok None) × (new ≡ old)) (IsStep old new result (field_at old.comma old.semi old.rest))
 

@@ -14,7 +14,7 @@ pub enum FieldFault {
     #[error("no field")]
     BadToken,
     /// The text ends before a delimiter.
-    #[error("no delimiter behind the field")]
+    #[error("no delimiter after the field")]
     NoEnd,
 }
 

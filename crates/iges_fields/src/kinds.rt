@@ -11,7 +11,7 @@ pub enum FieldKind {
     Text,
 }
 
-/// A field: its kind, and its content in the text that it was read from. Of a text, the bytes behind
+/// A field: its kind, and its content in the text that it was read from. Of a text, the bytes after
 /// the `H`; of an empty field, none.
 #[derive(Clone, Copy, Debug, PartialEq, Eq)]
 pub struct Field<'a> {

@@ -18,7 +18,7 @@ pub fn refuses_a_long_count()
     ensures { (comma semi : ℕ) (text : List ℕ) → (field_at comma semi text ≡ Err FieldFault.BadText) ↔ RunsPast text }
 {}
 
-/// NoEnd comes exactly where the whole text is a field with no delimiter behind it.
+/// NoEnd comes exactly where the whole text is a field with no delimiter after it.
 pub fn refuses_an_open_field()
     ensures { (comma semi : ℕ) (text : List ℕ) → AreDelimiters comma semi →
         (field_at comma semi text ≡ Err FieldFault.NoEnd) ↔ IsOpen text }
@@ -30,9 +30,9 @@ pub fn refuses_what_is_no_field()
         (field_at comma semi text ≡ Err FieldFault.BadToken) ↔ IsNoField comma semi text }
 {}
 
-/// Whatever stands behind them, tokens that are laid read back as the same tokens.
+/// Whatever stands after them, tokens that are laid read back as the same tokens.
 pub fn laid_tokens_read_back()
-    ensures { (width comma semi : ℕ) (tokens : List Token) (behind : List ℕ) → 0 < length tokens →
+    ensures { (width comma semi : ℕ) (tokens : List Token) (after : List ℕ) → 0 < length tokens →
         AreDelimiters comma semi → AreSpelt tokens → AreHeld tokens →
-        Reads comma semi (laid width comma semi 0 tokens ++ behind) tokens }
+        Reads comma semi (laid width comma semi 0 tokens ++ after) tokens }
 {}

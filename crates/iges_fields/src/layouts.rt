@@ -25,7 +25,7 @@ fn push_spelling(out: &mut Vec<u8>, token: &Token) -> Result<(), AllocError>
     }
 }
 
-/// Makes a token with the delimiter behind it, in the room of the piece before.
+/// Makes a token with the delimiter after it, in the room of the piece before.
 fn make_piece(out: &mut Vec<u8>, token: &Token, delimiter: u8) -> Result<(), AllocError>
     ensures made { OnOk result (out.new.items ≡ piece delimiter token.now) }
     ensures held { OnOk result (IsHeld token.now) }
@@ -36,7 +36,7 @@ fn make_piece(out: &mut Vec<u8>, token: &Token, delimiter: u8) -> Result<(), All
     Ok(())
 }
 
-/// The delimiter behind the token at a place.
+/// The delimiter after the token at a place.
 fn delimiter(place: usize, count: usize, comma: u8, semi: u8) -> u8
     requires { place < count }
     ensures { result ≡ delimiter comma semi (place + 1 == count) }
@@ -109,15 +109,15 @@ fn lines_of(alloc: Global, text: &[u8], width: usize) -> Result<Lines, AllocErro
     let mut lines = Lines::new(alloc);
     let mut rest = text;
     while !rest.is_empty() {
-        let (front, behind) = rest.split_at(rest.len().min(width));
+        let (front, after) = rest.split_at(rest.len().min(width));
         lines.push(filled(alloc, front, width)?)?;
-        rest = behind;
+        rest = after;
     }
     Ok(lines)
 }
 
-/// The lines in which tokens are written, each of this many columns. Each token has a delimiter behind
-/// it, `semi` the last and `comma` the others, and they lie one behind the other; but a token that would
+/// The lines in which tokens are written, each of this many columns. Each token has a delimiter after
+/// it, `semi` the last and `comma` the others, and they lie one after the other; but a token that would
 /// run past its line's end starts on the next line, if anything stands before it, and may then run on
 /// over several. The last line is filled up with blanks.
 pub fn lay(
@@ -133,8 +133,8 @@ pub fn lay(
     requires delimiters { AreDelimiters comma semi }
     ensures laid { IfOk result (AreLines width (laid width comma semi 0 tokens.now)) }
 
-    // Whatever stands behind the lines, they read back as the tokens.
-    ensures reads_back { IfOk result (λ lines. (behind : List ℕ) → Reads comma semi (concat lines ++ behind) tokens.now) }
+    // Whatever stands after the lines, they read back as the tokens.
+    ensures reads_back { IfOk result (λ lines. (after : List ℕ) → Reads comma semi (concat lines ++ after) tokens.now) }
 {
     let text = laid(alloc, tokens.as_slice(), comma, semi, width)?;
     lines_of(alloc, text.as_slice(), width)

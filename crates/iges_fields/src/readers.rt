@@ -1,5 +1,5 @@
 ghost use Rattle.std.specs.Prelude.{◌≡◌, ◌≤◌, ◌-◌, ◌∷◌, length, take, false, IfSome};
-ghost use Rattle.solid_base.specs.Spelling.{behind_sign, digit_count, behind_digits, behind_blanks};
+ghost use Rattle.solid_base.specs.Spelling.{after_sign, digit_count, after_digits, after_blanks};
 ghost use Rattle.iges_fields.specs.Delimiters.{AreDelimiters};
 ghost use Rattle.iges_fields.specs.Grammar.{delimiter, IsField};
 ghost use Rattle.iges_fields.specs.Reading.{delimited, text_at, word_at, content_at, field_at};
@@ -8,10 +8,10 @@ ghost use Rattle.iges_fields.specs.Readers.{Gives, reading_of};
 use crate::faults::FieldFault;
 use crate::kinds::{Field, FieldKind};
 use crate::scan;
-use solid_base::{after_sign, behind_blanks, digit_count, number_up_to};
+use solid_base::{after_blanks, after_sign, digit_count, number_up_to};
 use std::marker::Model;
 
-/// A field, what stands behind its delimiter, and whether that delimiter ends the record.
+/// A field, what stands after its delimiter, and whether that delimiter ends the record.
 #[derive(Clone, Copy, Debug)]
 pub struct Found<'a> {
     pub field: Field<'a>,
@@ -22,14 +22,14 @@ pub struct Found<'a> {
 fn delimited<'a>(
     kind: FieldKind,
     text: &'a [u8],
-    behind: &'a [u8],
+    after: &'a [u8],
     comma: u8,
     semi: u8,
 ) -> Result<Found<'a>, FieldFault>
-    ensures { Gives result (delimited comma semi kind text.now behind.now) }
+    ensures { Gives result (delimited comma semi kind text.now after.now) }
 {
     let field = Field { kind, text };
-    match behind {
+    match after {
         [] => Err(FieldFault::NoEnd),
         [b, rest @ ..] if *b == comma => Ok(Found {
             field,
@@ -51,17 +51,17 @@ fn text_at<'a>(count: usize, bytes: &'a [u8], comma: u8, semi: u8) -> Result<Fou
     if bytes.len() < count {
         return Err(FieldFault::BadText);
     }
-    let (text, behind) = bytes.split_at(count);
-    delimited(FieldKind::Text, text, behind_blanks(behind), comma, semi)
+    let (text, after) = bytes.split_at(count);
+    delimited(FieldKind::Text, text, after_blanks(after), comma, semi)
 }
 
 fn word_at<'a>(bytes: &'a [u8], comma: u8, semi: u8) -> Result<Found<'a>, FieldFault>
     ensures { Gives result (word_at comma semi bytes.now) }
 {
-    let (word, behind) = bytes.split_at(scan::bytes_before(bytes, comma, semi));
+    let (word, after) = bytes.split_at(scan::bytes_before(bytes, comma, semi));
     let text = scan::before_blanks(word);
     match scan::kind_of(text) {
-        Some(kind) => delimited(kind, text, behind, comma, semi),
+        Some(kind) => delimited(kind, text, after, comma, semi),
         None => Err(FieldFault::BadToken),
     }
 }
@@ -70,16 +70,16 @@ fn content_at<'a>(bytes: &'a [u8], comma: u8, semi: u8) -> Result<Found<'a>, Fie
     ensures { Gives result (content_at comma semi bytes.now) }
 {
     let count = digit_count(bytes);
-    let (digits, behind) = bytes.split_at(count);
-    if scan::is_counted(count, behind) {
+    let (digits, after) = bytes.split_at(count);
+    if scan::is_counted(count, after) {
         let size = number_up_to(digits, u64::MAX) as usize;
-        text_at(size, &behind[1..], comma, semi)
+        text_at(size, &after[1..], comma, semi)
     } else {
         word_at(bytes, comma, semi)
     }
 }
 
-/// The field up to `end`, a part of the bytes behind its content, where a delimiter stands.
+/// The field up to `end`, a part of the bytes after its content, where a delimiter stands.
 fn ended_at<'a>(
     kind: FieldKind,
     bytes: &'a [u8],
@@ -116,10 +116,10 @@ fn number_at<'a>(bytes: &'a [u8], comma: u8, semi: u8) -> Option<Found<'a>>
 {
     let number = after_sign(bytes);
     let whole = digit_count(number);
-    let behind = &number[whole..];
-    match behind {
+    let after = &number[whole..];
+    match after {
         [b'.', rest @ ..] => real_at(bytes, whole, rest, comma, semi),
-        _ if whole != 0 => ended_at(FieldKind::Whole, bytes, behind, comma, semi),
+        _ if whole != 0 => ended_at(FieldKind::Whole, bytes, after, comma, semi),
         _ => None,
     }
 }
@@ -132,8 +132,8 @@ fn real_at<'a>(
     comma: u8,
     semi: u8,
 ) -> Option<Found<'a>>
-    requires whole { whole ≡ digit_count (behind_sign bytes.now) }
-    requires rest { behind_digits (behind_sign bytes.now) ≡ 46 ∷ rest.now }
+    requires whole { whole ≡ digit_count (after_sign bytes.now) }
+    requires rest { after_digits (after_sign bytes.now) ≡ 46 ∷ rest.now }
     ensures { IfSome result (λ found. IsField comma semi bytes.now (reading_of found)) }
 {
     let count = digit_count(rest);
@@ -147,22 +147,22 @@ fn field_at<'a>(text: &'a [u8], comma: u8, semi: u8) -> Result<Found<'a>, FieldF
     requires { AreDelimiters comma semi }
     ensures { Gives result (field_at comma semi text.now) }
 {
-    let content = behind_blanks(text);
+    let content = after_blanks(text);
     match number_at(content, comma, semi) {
         Some(found) => Ok(found),
-        None => field_behind(text, content, comma, semi),
+        None => field_after(text, content, comma, semi),
     }
 }
 
 /// The field that a text begins with, the content of which begins here.
 #[tactic(auto, unfolding(crate::specs::Reading::field_at))]
-fn field_behind<'a>(
+fn field_after<'a>(
     text: &'a [u8],
     content: &'a [u8],
     comma: u8,
     semi: u8,
 ) -> Result<Found<'a>, FieldFault>
-    requires { content.now ≡ behind_blanks text.now }
+    requires { content.now ≡ after_blanks text.now }
     ensures { Gives result (field_at comma semi text.now) }
 {
     content_at(content, comma, semi)
@@ -170,8 +170,8 @@ fn field_behind<'a>(
 
 /// A reader of the fields of a record's text, which it borrows.
 ///
-/// `comma` stands between fields and `semi` behind the last; what follows `semi` is not read. Blanks,
-/// which are spaces and tabs, may stand before and behind a field's content. A content that begins with
+/// `comma` stands between fields and `semi` after the last; what follows `semi` is not read. Blanks,
+/// which are spaces and tabs, may stand before and after a field's content. A content that begins with
 /// digits and `H` is a text of that many bytes, whatever they are; any other runs to the next delimiter,
 /// and is empty, a whole number or a real number. A real number has a point or an exponent, which is
 /// `E`, `D`, `e` or `d`, an optional sign and digits.
@@ -198,7 +198,7 @@ impl<'a> Fields<'a> {
     ghost use Rattle.iges_fields.specs.Delimiters.{AreDelimiters};
     ghost use Rattle.iges_fields.specs.Readers.{Reader, IsNext};
 
-    /// A reader at the beginning of a text, with the delimiter between fields and the one behind the
+    /// A reader at the beginning of a text, with the delimiter between fields and the one after the
     /// last.
     pub fn new(text: &'a [u8], comma: u8, semi: u8) -> Fields<'a>
         requires { AreDelimiters comma semi }
@@ -215,7 +215,7 @@ impl<'a> Fields<'a> {
     /// The next field, or None where the last field ended at `semi`.
     ///
     /// BadText comes where a text's count runs past the end, BadToken where what stands before the
-    /// delimiter is no field, and NoEnd where a field is the text's end with no delimiter behind it. The
+    /// delimiter is no field, and NoEnd where a field is the text's end with no delimiter after it. The
     /// reader is then as it was.
     pub fn next(&mut self) -> Result<Option<Field<'a>>, FieldFault>
         ensures { IsNext self.old self.new result }

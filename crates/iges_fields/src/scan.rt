@@ -1,12 +1,12 @@
 ghost use Rattle.std.specs.Prelude.{◌≡◌, ◌≤◌, ◌<◌, length, IsTrue};
 ghost use Rattle.std.specs.List.{suffix_len};
-ghost use Rattle.solid_base.specs.Spelling.{is_blank, before_blanks, is_whole, is_exponent, class_behind, class_of};
+ghost use Rattle.solid_base.specs.Spelling.{is_blank, before_blanks, is_whole, is_exponent, class_with_rest, class_of};
 ghost use Rattle.iges_fields.specs.Reading.{bytes_before, is_counted, kind_of};
 
 use crate::kinds::FieldKind;
 use solid_base::{after_sign, digit_count};
 
-fn blanks_behind(text: &[u8]) -> usize
+fn blanks_after(text: &[u8]) -> usize
     ensures within { result ≤ length text.now }
     ensures value { result ≡ suffix_len is_blank text.now }
 {
@@ -16,11 +16,11 @@ fn blanks_behind(text: &[u8]) -> usize
         .count()
 }
 
-/// The text without the blanks behind it.
+/// The text without the blanks after it.
 pub fn before_blanks(text: &[u8]) -> &[u8]
     ensures { result.now ≡ before_blanks text.now }
 {
-    &text[..text.len() - blanks_behind(text)]
+    &text[..text.len() - blanks_after(text)]
 }
 
 /// How many bytes stand before the first delimiter.
@@ -33,12 +33,12 @@ pub fn bytes_before(text: &[u8], comma: u8, semi: u8) -> usize
         .count()
 }
 
-/// Whether an H stands behind so many digits, of which there is one at least.
-pub fn is_counted(count: usize, behind: &[u8]) -> bool
-    ensures some { IsTrue result → 0 < length behind.now }
-    ensures value { result ≡ is_counted count behind.now }
+/// Whether an H stands after so many digits, of which there is one at least.
+pub fn is_counted(count: usize, after: &[u8]) -> bool
+    ensures some { IsTrue result → 0 < length after.now }
+    ensures value { result ≡ is_counted count after.now }
 {
-    count != 0 && behind.first() == Some(&b'H')
+    count != 0 && after.first() == Some(&b'H')
 }
 
 fn is_whole(text: &[u8]) -> bool
@@ -59,8 +59,8 @@ fn is_exponent(text: &[u8]) -> bool
     }
 }
 
-fn kind_behind(whole: usize, text: &[u8]) -> Option<FieldKind>
-    ensures { result ≡ kind_of (class_behind whole text.now) }
+fn kind_after(whole: usize, text: &[u8]) -> Option<FieldKind>
+    ensures { result ≡ kind_of (class_with_rest whole text.now) }
 {
     match text {
         [] if whole == 0 => None,
@@ -87,5 +87,5 @@ pub fn kind_of(text: &[u8]) -> Option<FieldKind>
     }
     let number = after_sign(text);
     let count = digit_count(number);
-    kind_behind(count, &number[count..])
+    kind_after(count, &number[count..])
 }

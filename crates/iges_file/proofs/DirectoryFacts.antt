@@ -1,4 +1,4 @@
--- What a whole directory and a whole global section say of the calls that come behind them.
+-- What a whole directory and a whole global section say of the calls that come after them.
 use Rattle.std.proofs.Common.{inl, inr, ℕ, ◌*◌, ◌≤◌, List, [], ◌∷◌, length, refl, sym, ap, subst, arith}
 use Rattle.std.specs.Bool.{IsTrue}
 use Rattle.std.specs.List.{AllByRecursion}

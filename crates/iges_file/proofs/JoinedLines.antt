@@ -3,7 +3,7 @@ use Rattle.std.proofs.Common.{◌≡◌, ℕ, zero, suc, ◌+◌, ◌-◌, ◌*�
 use Rattle.std.specs.List.{concat, AllByRecursion}
 use Rattle.std.proofs.lemmas.List.{append-nil}
 
--- the line at a place, and those behind it
+-- the line at a place, and those after it
 line_at : (lines : List (List ℕ)) (at : ℕ) (line : List ℕ) → slice_get lines at ≡ Some line → drop at lines ≡ line ∷ drop (suc at) lines
 line_at [] at line is = cc
 line_at (l ∷ lines) zero line is = let same : l ≡ line = cc in rw same refl

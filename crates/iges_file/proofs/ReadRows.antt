@@ -1,4 +1,4 @@
--- A row that is read from a record is one that may have fields behind it.
+-- A row that is read from a record is one that may have fields after it.
 use Rattle.std.proofs.Common.{◌≡◌, ℕ, List, [], Bool, true, false, cond, ◌==◌, Option, Result, Ok, Err, unsigned_abs, subst}
 use Rattle.solid_base.specs.declared.entities.Token.{Token}
 use Rattle.solid_base.specs.declared.solids.Row.{Row}
@@ -68,6 +68,6 @@ read_tail kind form matrix fields x h = go (is_read kind form) h where
   go true h =
       let (p, first, more) = bind_ok (type_at kind start) (λ p. row_at kind form matrix p >>= with_tail) x h in
       let (r, read, rest) = bind_ok (row_at kind form matrix p) with_tail x more in
-      let (tail, behind, end) = bind_ok (tail_from [] r.1.index r.1.fields) (λ tail. Ok (r.0, tail)) x rest in
+      let (tail, after, end) = bind_ok (tail_from [] r.1.index r.1.fields) (λ tail. Ok (r.0, tail)) x rest in
       subst (λ (y : Row × List Token). IsTailOf y.0 y.1) (ok_same (r.0, tail) x end) (row_tail kind form matrix p r tail read)
   go false h = cc

@@ -18,7 +18,7 @@ entities_pushed comma semi params [] (f ∷ es) pair e all one = absurd all
 entities_pushed comma semi params (p ∷ pairs) [] pair e all one = absurd all
 entities_pushed comma semi params (p ∷ pairs) (f ∷ es) pair e all one = (all.0, entities_pushed comma semi params pairs es pair e all.1 one)
 
--- what holds of each item, and of one behind them
+-- what holds of each item, and of one after them
 pub all_pushed : {X : Type 0} (P : X → Type 0) (xs : List X) (x : X) → AllByRecursion P xs → P x → AllByRecursion P (xs ++ x ∷ [])
 all_pushed P [] x all one = (one, tt)
 all_pushed P (y ∷ ys) x all one = (all.0, all_pushed P ys x all.1 one)
@@ -41,18 +41,18 @@ row_blamed comma semi params front rest es pair number (row.BadAxis i) good is b
 row_blamed comma semi params front rest es pair number row.BadMatrix good is bad = blamed comma semi params front rest es pair number row.BadMatrix good is (bad (λ e. cc))
 row_blamed comma semi params front rest es pair number (row.BadPostfix i) good is bad = blamed comma semi params front rest es pair number (row.BadPostfix i) good is (bad (λ e. cc))
 
--- the lines of the entity at a place, and of those behind it
+-- the lines of the entity at a place, and of those after it
 pub lines_next : (comma semi : ℕ) (rows : List Entity) (at : ℕ) (e : Entity) → slice_get rows at ≡ Some e
     → lines_of comma semi (drop at rows) ≡ lines_for (length (record_text comma semi e.row e.tail)) + lines_of comma semi (drop (suc at) rows)
 lines_next comma semi [] at e is = cc
 lines_next comma semi (r ∷ rows) zero e is = let same : r ≡ e = cc in rw same refl
 lines_next comma semi (r ∷ rows) (suc at) e is = lines_next comma semi rows at e is
 
--- what holds of each item from a place on holds of each behind it
-pub all_behind : {X : Type 0} (P : X → Type 0) (xs : List X) (at : ℕ) → AllByRecursion P (drop at xs) → AllByRecursion P (drop (suc at) xs)
-all_behind P [] at all = tt
-all_behind P (x ∷ xs) zero all = all.1
-all_behind P (x ∷ xs) (suc at) all = all_behind P xs at all
+-- what holds of each item from a place on holds of each after it
+pub all_after : {X : Type 0} (P : X → Type 0) (xs : List X) (at : ℕ) → AllByRecursion P (drop at xs) → AllByRecursion P (drop (suc at) xs)
+all_after P [] at all = tt
+all_after P (x ∷ xs) zero all = all.1
+all_after P (x ∷ xs) (suc at) all = all_after P xs at all
 
 -- an entity for each entry
 pub entities_counted : (comma semi : ℕ) (params : List (List ℕ)) (pairs : List Pair) (rows : List Entity) → AreEntities comma semi params pairs rows → length rows ≡ length pairs

@@ -22,7 +22,7 @@ use Rattle.iges_file.specs.declared.faults.FileFault.TheVariants as fault
 abbrev pub text_of : List (List ℕ) → Pair → List ℕ
 text_of params pair = concat (take pair.count (drop (pair.first - 1) params))
 
--- an entity of this row, with the kept fields of its entry and these fields behind the row's parameters
+-- an entity of this row, with the kept fields of its entry and these fields after the row's parameters
 abbrev pub entity_of : Pair → Row × List Token → Entity
 entity_of pair read = record { row = read.0; attrs = pair.attrs; tail = read.1 }
 
@@ -30,7 +30,7 @@ entity_of pair read = record { row = read.0; attrs = pair.attrs; tail = read.1 }
 abbrev pub null_entity : Pair → Entity
 null_entity pair = entity_of pair (row.Null, [])
 
--- an entity that isn't read keeps its record without the blanks behind it
+-- an entity that isn't read keeps its record without the blanks after it
 abbrev pub kept_entity : Pair → List ℕ → Entity
 kept_entity pair text = entity_of pair (row.Opaque pair.kind pair.form pair.matrix (before_blanks text), [])
 
@@ -82,7 +82,7 @@ HasLines params pair = (pair.kind ≢ 0) → (1 ≤ pair.first) × (pair.first -
 abbrev pub IsWritable : Entity → Type 0
 IsWritable e = IsLawfulRow e.row × AreSpelt e.tail × IsTailOf e.row e.tail
 
--- what is wrong with the rows of a file: the first record that has a fault. Want of memory says nothing of them
+-- what is wrong with the rows of a file: the first record that has a fault. Out of memory says nothing of them
 abbrev pub IsRowsFault : ℕ → ℕ → List (List ℕ) → List Pair → FileFault → Type 0
 IsRowsFault comma semi params pairs (fault.Memory e) = Unit {0}
 IsRowsFault comma semi params pairs (fault.Card f) = ⊥

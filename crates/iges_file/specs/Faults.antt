@@ -28,7 +28,7 @@ fault_number (fault.BadRow entity f) = 20
 fault_number fault.TooManyLines = 21
 fault_number (fault.Graph f) = graphs.fault_number f
 
--- neither the fault nor the fault in it is want of memory
+-- neither the fault nor the fault in it is out of memory
 abbrev pub IsOfText : FileFault → Type 0
 IsOfText (fault.Memory e) = ⊥
 IsOfText (fault.Card f) = cards.IsOfText f
@@ -38,7 +38,7 @@ IsOfText (fault.BadRow entity f) = rows.IsOfText f
 IsOfText fault.TooManyLines = Unit {0}
 IsOfText (fault.Graph f) = graphs.IsOfText f
 
--- want of memory is that of the file, and never that of a fault in it
+-- out of memory is that of the file, and never that of a fault in it
 abbrev pub IsOuter : FileFault → Type 0
 IsOuter (fault.Memory e) = Unit {0}
 IsOuter (fault.Card f) = cards.IsOfText f
@@ -58,7 +58,7 @@ fault_words (fault.BadRow entity f) = (codes "BadRow " ++ decimal entity) ++ cod
 fault_words fault.TooManyLines = codes "TooManyLines"
 fault_words (fault.Graph f) = graphs.fault_words f
 
--- a fault of a part as a fault of the file; want of memory is that of the file
+-- a fault of a part as a fault of the file; out of memory is that of the file
 abbrev pub of_card : CardFault → FileFault
 of_card (card.Memory e) = fault.Memory e
 of_card card.NotFixed = fault.Card card.NotFixed

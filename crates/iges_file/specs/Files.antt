@@ -95,7 +95,7 @@ pub record HasGraphFault (bytes : List ℕ) (f : GraphFault) : Type 0 where
   pub few : lines_of text.comma text.semi rows ≤ most_lines
   pub first : IsFault rows f
 
--- the bytes have this first fault. Want of memory is none of theirs
+-- the bytes have this first fault. Out of memory is none of theirs
 abbrev pub Refused : List ℕ → FileFault → Type 0
 Refused bytes (fault.Memory e) = ⊥
 Refused bytes (fault.Card f) = cards_in bytes ≡ Err f

@@ -41,7 +41,7 @@ fn record(alloc: Global, params: &BorrowedLines, pair: &Pair) -> Result<Vec<u8>,
     joined(alloc, params, pair.first - 1, pair.count)
 }
 
-fn blanks_behind(text: &[u8]) -> usize
+fn blanks_after(text: &[u8]) -> usize
     ensures within { result ≤ length text.now }
     ensures value { result ≡ suffix_len is_blank text.now }
 {
@@ -51,17 +51,17 @@ fn blanks_behind(text: &[u8]) -> usize
         .count()
 }
 
-/// A text without the blanks behind it, in its own room.
+/// A text without the blanks after it, in its own room.
 fn before_blanks(text: Vec<u8>) -> Bytes
     ensures { result ≡ before_blanks text.items }
 {
     let mut kept = text;
-    let count = kept.len() - blanks_behind(&kept);
+    let count = kept.len() - blanks_after(&kept);
     kept.truncate(count);
     Bytes::from_vec(kept)
 }
 
-/// An entity that isn't read keeps its record without the blanks behind it.
+/// An entity that isn't read keeps its record without the blanks after it.
 fn kept_entity(alloc: Global, pair: Pair, text: Vec<u8>) -> Entity
     ensures kept { result ≡ kept_entity pair text.items }
     ensures writable { IsWritable result }

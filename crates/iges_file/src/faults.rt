@@ -12,8 +12,8 @@ use thiserror::Error;
 /// Why bytes are no file that is read.
 #[derive(Clone, Copy, Debug, PartialEq, Eq, Error)]
 pub enum FileFault {
-    /// Memory was wanting.
-    #[error("memory is wanting")]
+    /// Out of memory.
+    #[error("out of memory")]
     Memory(AllocError),
     /// The lines aren't in the fixed form.
     #[error("the lines aren't in the fixed form")]
@@ -124,7 +124,7 @@ impl FileFault {
     }
 
     /// The fault as it is printed: the words of the nested fault; of a row's the number of its entity
-    /// first. AllocError where memory is wanting. Want of memory itself is never printed.
+    /// first. AllocError when out of memory. Out of memory itself is never printed.
     pub fn write_fault(&self, alloc: Global) -> Result<Bytes, AllocError>
         requires { IsOfText self.now }
         ensures { IfOk result (λ words. words ≡ fault_words self.now) }

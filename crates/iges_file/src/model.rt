@@ -15,16 +15,16 @@ use std::alloc::Global;
 /// How many lines the records of a model may take.
 const MOST_LINES: u64 = 300_000;
 
-/// Reads a file in the fixed form, of at most 2^25 bytes: its model, and the place behind its terminate
-/// line, behind which nothing is read.
+/// Reads a file in the fixed form, of at most 2^25 bytes: its model, and the place after its terminate
+/// line, after which nothing is read.
 ///
 /// The row at place i is that of the entity with the number 2i + 1. Entities of types and forms that
 /// aren't read keep their records.
 ///
 /// The first fault is told: that of the lines; of the global section; of the directory; BadRow, with the
 /// number of the first entity whose record has a fault and that fault; TooManyLines, where the records
-/// would take more than 300,000 lines; that of the references between entities. Memory comes where
-/// memory is wanting.
+/// would take more than 300,000 lines; that of the references between entities. Memory comes when
+/// out of memory.
 pub fn read_model(alloc: Global, bytes: &[u8]) -> Result<(Model, usize), FileFault>
     requires { length bytes.now ≤ 2 ^ 25 }
     ensures reads { IfOk result (λ read. Reads bytes.now read.0 read.1) }

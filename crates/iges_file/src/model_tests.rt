@@ -218,7 +218,7 @@ fn tells_faults_of_references(rt: HostRuntime) -> Result<(), AllocError> {
     let ball = "158,1.;";
     let turn = "124,0.,-1.,0.,0.,1.,0.,0.,0.,0.,0.,1.,0.;";
     let cases: [(&[Record], &[u8]); 12] = [
-        // An instance of a ball that is moved by one matrix behind another.
+        // An instance of a ball that is moved by one matrix after another.
         (
             &[
                 (430, 0, "430,3;"),
@@ -241,7 +241,7 @@ fn tells_faults_of_references(rt: HostRuntime) -> Result<(), AllocError> {
             &[(158, 0, ball), (124, 0, turn), (184, 0, "184,2,1,3;")],
             b"WrongTarget 5 3",
         ),
-        // Itself, and through what comes behind a matrix.
+        // Itself, and through what comes after a matrix.
         (&[(158, 0, ball), (430, 0, "430,3;")], b"Cycle 3"),
         (
             &[(158, 0, ball), (124, 5, turn), (124, 3, turn)],

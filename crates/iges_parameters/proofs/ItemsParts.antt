@@ -8,7 +8,7 @@ use Rattle.iges_parameters.specs.Rules.{Place, token_at, whole_of, value_of, par
 use Rattle.iges_parameters.specs.Lists.{item_with, item_at}
 use Rattle.iges_parameters.proofs.ItemsSteps.{bind_ok, ok_same}
 
--- a token and the place behind it
+-- a token and the place after it
 abbrev taken_as : Token → Place → Result (Token × Place) RowFault
 taken_as t q = Ok (t, q)
 

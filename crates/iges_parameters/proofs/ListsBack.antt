@@ -30,9 +30,9 @@ count_token count = refl
 count_again : (count index : ℕ) (fs : List (Option Token)) → 0 < count → count ≤ most_whole → ReadsTo (count_at (record { index = index; fields = Some (whole (pos count)) ∷ fs })) count fs
 unfolding count_at
 count_again count index fs some most =
-    let (behind, more) = numbers_again list_rules (pos count ∷ []) [] index fs (list_suited count some most) in
+    let (after, more) = numbers_again list_rules (pos count ∷ []) [] index fs (list_suited count some most) in
     let fields : map Some (tokens_by list_rules (pos count ∷ [])) ++ fs ≡ Some (whole (pos count)) ∷ fs = ap (λ (ts : List Token). map Some ts ++ fs) (count_token count) in (
-      behind,
+      after,
       ap (λ (xs : List (Option Token)). numbers_by list_rules (record { index = index; fields = xs }) >>= λ ns. Ok (unsigned_abs (parameter ns.0 1), ns.1)) (sym fields)
           ∙ ap (λ (r : Result (List ℤ × Place) RowFault). r >>= λ ns. Ok (unsigned_abs (parameter ns.0 1), ns.1)) more,
     )
@@ -47,7 +47,7 @@ with_item_of union a b ts = refl
 with_item_of intersection a b ts = refl
 with_item_of difference a b ts = refl
 
--- behind the items of a tree it is the last of the whole trees
+-- after the items of a tree it is the last of the whole trees
 fold_tree : (t : Tree) (ts : List Tree) → fold with_item ts (post_order t) ≡ t ∷ ts
 fold_tree (operand entity) ts = refl
 fold_tree (combination o a b) ts =
@@ -55,9 +55,9 @@ fold_tree (combination o a b) ts =
     ∙ ap (λ (xs : List Tree). fold with_item xs (item_of o ∷ [])) (fold_joined (post_order a) (post_order b) ts ∙ ap (λ (xs : List Tree). fold with_item xs (post_order b)) (fold_tree a ts) ∙ fold_tree b (a ∷ ts))
     ∙ with_item_of o a b ts
 
-trees_behind : (items : List Item) (t : Tree) → trees_in (items ++ post_order t) ≡ t ∷ trees_in items
+trees_after : (items : List Item) (t : Tree) → trees_in (items ++ post_order t) ≡ t ∷ trees_in items
 unfolding trees_in
-trees_behind items t = fold_joined items (post_order t) [] ∙ fold_tree t (fold with_item [] items)
+trees_after items t = fold_joined items (post_order t) [] ∙ fold_tree t (fold with_item [] items)
 
 abbrev item_token : Item → Token
 item_token i = whole (number_of_item i)
@@ -129,7 +129,7 @@ fields_joined xs ys fs =
 
 -- the items of a tree are read, and the others from there on
 tree_step : (t : Tree) (more index : ℕ) (before : List Item) (fs : List (Option Token)) → AllByRecursion IsLawfulItem (post_order t)
-    → (behind : ℕ) × (items_from (length (post_order t) + more) before (places index (post_order t) fs) ≡ items_from more (before ++ post_order t) (record { index = behind; fields = fs }))
+    → (after : ℕ) × (items_from (length (post_order t) + more) before (places index (post_order t) fs) ≡ items_from more (before ++ post_order t) (record { index = after; fields = fs }))
 tree_step (operand entity) more index before fs h =
     let count : length (post_order (operand entity)) + more ≡ suc more = omega arith in
     (index + 1, ap (λ (n : ℕ). items_from n before (places index (post_order (operand entity)) fs)) count ∙ item_step more index before (item.Operand entity) fs h.0 tt)
@@ -138,13 +138,13 @@ tree_step (combination o a b) more index before fs h =
     let right : List Item = post_order b ++ last in
     let nested : (post_order a ++ post_order b) ++ last ≡ post_order a ++ right = append_assoc (post_order a) (post_order b) last in
     let both = all_front (post_order a ++ post_order b) last h in
-    let behind_left : List (Option Token) = map Some (map item_token right) ++ fs in
-    let behind_right : List (Option Token) = Some (item_token (item_of o)) ∷ fs in
+    let after_left : List (Option Token) = map Some (map item_token right) ++ fs in
+    let after_right : List (Option Token) = Some (item_token (item_of o)) ∷ fs in
     let count : length (post_order a ++ right) + more ≡ length (post_order a) + (length (post_order b) + suc more) = omega (arith, length-append (post_order a) right, length-append (post_order b) last) in
-    let (i, left_read) = tree_step a (length (post_order b) + suc more) index before behind_left (all_front (post_order a) (post_order b) both) in
-    let (j, right_read) = tree_step b (suc more) i (before ++ post_order a) behind_right (all_back (post_order a) (post_order b) both) in
+    let (i, left_read) = tree_step a (length (post_order b) + suc more) index before after_left (all_front (post_order a) (post_order b) both) in
+    let (j, right_read) = tree_step b (suc more) i (before ++ post_order a) after_right (all_back (post_order a) (post_order b) both) in
     let all : List Item = (before ++ post_order a) ++ post_order b in
-    let trees : trees_in all ≡ b ∷ a ∷ trees_in before = trees_behind (before ++ post_order a) b ∙ ap (λ (ts : List Tree). b ∷ ts) (trees_behind before a) in
+    let trees : trees_in all ≡ b ∷ a ∷ trees_in before = trees_after (before ++ post_order a) b ∙ ap (λ (ts : List Tree). b ∷ ts) (trees_after before a) in
     let two : 2 ≤ length (trees_in all) = subst (λ (ts : List Tree). 2 ≤ length ts) (sym trees) (let n : 2 ≤ length (b ∷ a ∷ trees_in before) = omega arith in n) in
     let glue : all ++ last ≡ before ++ (post_order a ++ right) = append_assoc (before ++ post_order a) (post_order b) last ∙ append_assoc before (post_order a) right in (
       j + 1,
@@ -167,7 +167,7 @@ unfolding trees_in
 no_trees = refl
 
 one_tree : (t : Tree) → length (trees_in (post_order t)) ≡ 1
-one_tree t = ap (λ (ts : List Tree). length ts) (trees_behind [] t) ∙ (let n : length (t ∷ trees_in []) ≡ 1 = omega (arith, no_trees) in n)
+one_tree t = ap (λ (ts : List Tree). length ts) (trees_after [] t) ∙ (let n : length (t ∷ trees_in []) ≡ 1 = omega (arith, no_trees) in n)
 
 pub some_items : (t : Tree) → 0 < length (post_order t)
 some_items (operand entity) = omega arith
@@ -229,16 +229,16 @@ assembly_again items index fs some most lawful =
     let n = length items in
     let es : List Token = map (λ p. whole (pos p.item)) items in
     let ms : List Token = map (λ p. whole (pos p.matrix)) items in
-    let behind : List (Option Token) = map Some ms ++ fs in
-    let cut : map Some (es ++ ms) ++ fs ≡ map Some es ++ behind = ap (λ (os : List (Option Token)). os ++ fs) (map-append Some es ms) ∙ append_assoc (map Some es) (map Some ms) fs in
+    let after : List (Option Token) = map Some ms ++ fs in
+    let cut : map Some (es ++ ms) ++ fs ≡ map Some es ++ after = ap (λ (os : List (Option Token)). os ++ fs) (map-append Some es ms) ∙ append_assoc (map Some es) (map Some ms) fs in
     let (i, counted) = count_again n index (map Some (es ++ ms) ++ fs) some most in
-    let (j, entities) = numbers_again (replicate n number) (item_numbers items) [] i behind (items_suited items [] lawful) in
+    let (j, entities) = numbers_again (replicate n number) (item_numbers items) [] i after (items_suited items [] lawful) in
     let (k, matrices) = numbers_again (replicate n number_or_none) (matrix_numbers items) [] j fs (matrices_suited items [] lawful) in
     let place : Place = record { index = k; fields = fs } in
     let more : List ℤ → Place → Result (List Placed × Place) RowFault = λ xs p. numbers_by (replicate n number_or_none) p >>= λ ys. Ok (placed_all xs ys.0, ys.1) in (
       k,
       ap (λ (r : Result (ℕ × Place) RowFault). r >>= λ m. placed_at m.0 m.1) counted
-          ∙ ap (λ (os : List (Option Token)). numbers_by (replicate n number) (record { index = i; fields = os }) >>= λ xs. more xs.0 xs.1) (cut ∙ ap (λ (ts : List Token). map Some ts ++ behind) (sym (item_tokens items)))
+          ∙ ap (λ (os : List (Option Token)). numbers_by (replicate n number) (record { index = i; fields = os }) >>= λ xs. more xs.0 xs.1) (cut ∙ ap (λ (ts : List Token). map Some ts ++ after) (sym (item_tokens items)))
           ∙ ap (λ (r : Result (List ℤ × Place) RowFault). r >>= λ xs. more xs.0 xs.1) entities
           ∙ ap (λ (ts : List Token). more (item_numbers items) (record { index = j; fields = map Some ts ++ fs })) (sym (matrix_tokens items))
           ∙ ap (λ (r : Result (List ℤ × Place) RowFault). r >>= λ ys. Ok (placed_all (item_numbers items) ys.0, ys.1)) matrices

@@ -98,7 +98,7 @@ no_more old new h = go old.ended refl h where
   go true e s = rw e refl
   go false e s = step (field_at old.comma old.semi old.rest) s
 
--- where no field stands, nothing is left behind it
+-- where no field stands, nothing is left after it
 pub none_left : (old new : Reader) (e : FieldFault) → IsNext old new (Err e) → fields_left old ≡ None ∷ []
 none_left old new f h = go old.ended refl h where
   go : (v : Bool) → old.ended ≡ v → IsNextWhen old new (Err f) v → fields_left old ≡ None ∷ []

@@ -3,7 +3,7 @@ use Rattle.std.proofs.Common.{◌≡◌, ℕ, suc, ◌+◌, ◌^◌, ◌<◌, �
 use Rattle.std.proofs.lemmas.Bool.Decides.{nat_tests}
 use Rattle.std.proofs.lemmas.Fmt.{decimal_nonempty}
 use Rattle.solid_base.specs.Digits.{is_digit, AreDigits, number_of}
-use Rattle.solid_base.specs.Spelling.{Sign, NoSign, Minus, IsWhole, IsReal, sign_of, behind_sign}
+use Rattle.solid_base.specs.Spelling.{Sign, NoSign, Minus, IsWhole, IsReal, sign_of, after_sign}
 use Rattle.solid_base.specs.Decimal.{with_sign}
 use Rattle.solid_base.specs.Ranges.{most_whole}
 use Rattle.solid_base.specs.declared.entities.Token.{Token}
@@ -50,7 +50,7 @@ no_plus b h = grind (arith, nat_tests)
 no_minus : (b : ℕ) → IsTrue (is_digit b) → (b == 45) ≡ false
 no_minus b h = grind (arith, nat_tests)
 
-no_sign : (ds : List ℕ) → AreDigits ds → (sign_of ds ≡ NoSign) × (behind_sign ds ≡ ds)
+no_sign : (ds : List ℕ) → AreDigits ds → (sign_of ds ≡ NoSign) × (after_sign ds ≡ ds)
 no_sign [] h = (refl, refl)
 no_sign (b ∷ bs) h =
     let p = no_plus b h.0 in
@@ -61,7 +61,7 @@ integer_again : (n : ℤ) → unsigned_abs n < 2 ^ 64 → integer_of (integer_te
 integer_again (pos n) h =
     let (all, is) = decimal_spelt n (omega arith) in
     let (s, b) = no_sign (decimal n) all in
-    ap (λ (x : Sign). with_sign x (number_of (behind_sign (decimal n)))) s ∙ ap (λ (ds : List ℕ). with_sign NoSign (number_of ds)) b ∙ ap (with_sign NoSign) is
+    ap (λ (x : Sign). with_sign x (number_of (after_sign (decimal n)))) s ∙ ap (λ (ds : List ℕ). with_sign NoSign (number_of ds)) b ∙ ap (with_sign NoSign) is
 integer_again (negsuc n) h =
     let (all, is) = decimal_spelt (n + 1) (omega arith) in
     let size : n + 1 ≡ suc n = omega arith in
@@ -118,7 +118,7 @@ value_again rule index before n h size =
     ∙ ap (λ (r : Result ℤ RowFault). r >>= λ m. sized rule.values index before m) (number_again rule.values index n h)
     ∙ ap (λ (b : Bool). cond b (Ok n) (Err (fault.BadSize index))) size
 
--- what is read is this, and the place behind it has these fields
+-- what is read is this, and the place after it has these fields
 abbrev pub ReadsTo : {A : Type 0} → Result (A × Place) RowFault → A → List (Option Token) → Type 0
 ReadsTo {A} r x fs = (index : ℕ) × (r ≡ Ok (x, record { index = index; fields = fs }))
 
@@ -144,8 +144,8 @@ numbers_again [] (n ∷ ns) before index fs h = absurd h
 numbers_again (r ∷ rs) [] before index fs h = absurd h
 numbers_again (r ∷ rs) (n ∷ ns) before index fs h =
     let first = parameter_again r index before n (map Some (tokens_by rs ns) ++ fs) h.0 h.1.0 in
-    let (behind, more) = numbers_again rs ns (before ++ n ∷ []) (index + 1) fs h.1.1 in
+    let (after, more) = numbers_again rs ns (before ++ n ∷ []) (index + 1) fs h.1.1 in
     let glue : (before ++ n ∷ []) ++ ns ≡ before ++ n ∷ ns = append_assoc before (n ∷ []) ns in (
-      behind,
-      ap (λ (x : Result (ℤ × Place) RowFault). x >>= λ m. numbers_from rs (before ++ m.0 ∷ []) m.1) first ∙ more ∙ ap (λ (xs : List ℤ). Ok (xs, record { index = behind; fields = fs })) glue,
+      after,
+      ap (λ (x : Result (ℤ × Place) RowFault). x >>= λ m. numbers_from rs (before ++ m.0 ∷ []) m.1) first ∙ more ∙ ap (λ (xs : List ℤ). Ok (xs, record { index = after; fields = fs })) glue,
     )

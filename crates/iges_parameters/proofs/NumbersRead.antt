@@ -60,14 +60,14 @@ number_back (values.SizeBelow other) index t n h = real_back index t n h
 number_back (values.Below other) index t n h = real_back index t n h
 number_back values.Count index t n h = whole_within index t n h
 number_back values.Number index t n h =
-    let (k, is, behind) = bind_ok (whole_of index t) (λ k. not_below_0 index k) n h in
-    let (same, from) = not_below index k n behind in
+    let (k, is, after) = bind_ok (whole_of index t) (λ k. not_below_0 index k) n h in
+    let (same, from) = not_below index k n after in
     (subst (λ (z : ℤ). unsigned_abs z ≤ most_whole) same (whole_within index t k is), from)
 
 given_back : (rule : Rule) (index : ℕ) (before : List ℤ) (t : Token) (n : ℤ) → given rule index before t ≡ Ok n → IsReadBy rule n before
 given_back rule index before t n h =
-    let (k, is, behind) = bind_ok (number_by rule.values index t) (λ k. sized rule.values index before k) n h in
-    let (size, same) = guarded (has_size rule.values k before) (fault.BadSize index) k n behind in
+    let (k, is, after) = bind_ok (number_by rule.values index t) (λ k. sized rule.values index before k) n h in
+    let (size, same) = guarded (has_size rule.values k before) (fault.BadSize index) k n after in
     inr (subst (IsNear rule.values) same (number_back rule.values index t k is), subst (λ (z : ℤ). has_size rule.values z before ≡ true) same size)
 
 default_back : (default : Option ℤ) (index : ℕ) (n : ℤ) → default_of default index ≡ Ok n → default ≡ Some n
@@ -84,13 +84,13 @@ value_back rule index before (token.Text text) n h = given_back rule index befor
 parameter_back : (rule : Rule) (before : List ℤ) (p : Place) (x : ℤ × Place) → parameter_at rule before p ≡ Ok x → IsReadBy rule x.0 before
 unfolding parameter_at
 parameter_back rule before p x h =
-    let (t, taken, behind) = bind_ok (token_at p) (λ t. value_of rule p.index before t.0 >>= λ n. Ok (n, t.1)) x h in
-    let (n, is, end) = bind_ok (value_of rule p.index before t.0) (λ n. Ok (n, t.1)) x behind in
+    let (t, taken, after) = bind_ok (token_at p) (λ t. value_of rule p.index before t.0 >>= λ n. Ok (n, t.1)) x h in
+    let (n, is, end) = bind_ok (value_of rule p.index before t.0) (λ n. Ok (n, t.1)) x after in
     subst (λ (z : ℤ). IsReadBy rule z before) (ap (λ (y : ℤ × Place). y.0) (ok_same (n, t.1) x end)) (value_back rule p.index before t.0 n is)
 
 -- ---- the numbers of a table
 
--- numbers by their rules, behind those before
+-- numbers by their rules, after those before
 abbrev pub AreReadBy : List Rule → List ℤ → List ℤ → Type 0
 AreReadBy [] [] before = Unit {0}
 AreReadBy [] (n ∷ ns) before = ⊥
@@ -101,8 +101,8 @@ pub numbers_back : (rules : List Rule) (before : List ℤ) (p : Place) (x : List
 unfolding numbers_from
 numbers_back [] before p x h = ([], ap (λ (y : List ℤ × Place). y.0) (sym (ok_same (before, p) x h)) ∙ sym (append-nil before), tt)
 numbers_back (rule ∷ rules) before p x h =
-    let (n, is, behind) = bind_ok (parameter_at rule before p) (λ n. numbers_from rules (before ++ n.0 ∷ []) n.1) x h in
-    let (new, whole, rest) = numbers_back rules (before ++ n.0 ∷ []) n.1 x behind in
+    let (n, is, after) = bind_ok (parameter_at rule before p) (λ n. numbers_from rules (before ++ n.0 ∷ []) n.1) x h in
+    let (new, whole, rest) = numbers_back rules (before ++ n.0 ∷ []) n.1 x after in
     (n.0 ∷ new, whole ∙ append_assoc before (n.0 ∷ []) new, (parameter_back rule before p n is, rest))
 
 -- the numbers of a table, from its first parameter on

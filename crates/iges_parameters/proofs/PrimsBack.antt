@@ -192,9 +192,9 @@ prim_suited (prim.Ellipsoid size centre u w) h = (
 by_table : (rules : List Rule) (make : List ℤ → Primitive) (p : Primitive) (ns : List ℤ) (index : ℕ) (fs : List (Option Token)) → AreSuited rules ns [] → make ns ≡ p → checked_prim p ≡ Ok p
     → ReadsTo (prim_by rules make (record { index = index; fields = map Some (tokens_by rules ns) ++ fs })) p fs
 by_table rules make p ns index fs h is checked =
-    let (behind, more) = numbers_again rules ns [] index fs h in
-    let place : Place = record { index = behind; fields = fs } in (
-      behind,
+    let (after, more) = numbers_again rules ns [] index fs h in
+    let place : Place = record { index = after; fields = fs } in (
+      after,
       ap (λ (r : Result (List ℤ × Place) RowFault). r >>= λ m. checked_prim (make m.0) >>= λ q. Ok (q, m.1)) more
           ∙ ap (λ (r : Result Primitive RowFault). r >>= λ q. Ok (q, place)) (ap checked_prim is ∙ checked),
     )

@@ -8,7 +8,7 @@ use Rattle.solid_base.specs.declared.entities.Token.{Token}
 use Rattle.iges_parameters.specs.declared.tables.Rule.{Rule}
 use Rattle.iges_parameters.specs.Writing.{whole, token_by, tokens_by}
 
--- the law of a sink: tokens behind others are both together
+-- the law of a sink: tokens after others are both together
 abbrev pub IsJoined : {S : Type 0} → (S → List Token → S) → Type 0
 IsJoined {S} with = (sink : S) (tokens more : List Token) → with (with sink tokens) more ≡ with sink (tokens ++ more)
 

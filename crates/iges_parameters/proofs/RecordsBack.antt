@@ -1,4 +1,4 @@
--- A row that is written as a record reads back, and so do the fields behind it.
+-- A row that is written as a record reads back, and so do the fields after it.
 use Rattle.std.proofs.Common.{◌≡◌, ℕ, ◌+◌, ◌≤◌, List, [], ◌∷◌, ◌++◌, length, map, Bool, true, cond, nat_le, Option, Some, Result, Ok, Err, ℤ, pos, unsigned_abs, refl, sym, ap, ◌∙◌, append_assoc, append-nil, arith}
 use Rattle.std.specs.Ordering.{int_eq}
 use Rattle.std.proofs.lemmas.Bool.Decides.{nat_tests, Decides-int_eq}
@@ -24,7 +24,7 @@ use Rattle.iges_parameters.proofs.NumbersBack.{ReadsTo, AreSuited, type_again, n
 use Rattle.iges_parameters.proofs.PrimsBack.{affine_checked, affine_again, affine_is, prim_again}
 use Rattle.iges_parameters.proofs.ListsBack.{tree_again, assembly_again}
 
--- ---- the type's number, and the fields behind the parameters
+-- ---- the type's number, and the fields after the parameters
 type_known : (kind : ℕ) (ts : List (Option Token)) → kind ≤ most_whole → type_at kind (record { index = 0; fields = Some (whole (pos kind)) ∷ ts }) ≡ Ok (record { index = 1; fields = ts })
 unfolding type_at type_of token_at
 type_known kind ts h =

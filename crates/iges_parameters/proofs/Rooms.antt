@@ -6,7 +6,7 @@ use Rattle.solid_base.specs.declared.entities.Token.{Token}
 use Rattle.iges_fields.specs.Grammar.{delimiter}
 use Rattle.iges_fields.specs.Layout.{spelling_of_token, piece, gap, placed, laid, is_last, AreLines}
 use Rattle.iges_parameters.specs.Writing.{lines_for}
-use Rattle.iges_parameters.specs.WrittenRows.{used_behind, room_of}
+use Rattle.iges_parameters.specs.WrittenRows.{used_after, room_of}
 
 -- what is laid has the length that is measured, whatever the delimiters
 pub room_laid : (comma semi used : ℕ) (ts : List Token) → used + length (laid 64 comma semi used ts) ≡ room_of used ts
@@ -17,8 +17,8 @@ room_laid comma semi used (t ∷ ts) =
     let size : length p ≡ length (spelling_of_token t) + 1 = length-append (spelling_of_token t) (delimiter comma semi (is_last ts) ∷ []) in
     let q = placed 64 used p in
     let long : length q ≡ gap 64 used (length p) + length p = length-append (replicate (gap 64 used (length p)) 32) p ∙ ap (λ (n : ℕ). n + length p) (length-replicate (gap 64 used (length p)) 32) in
-    let next : used + length q ≡ used_behind used (length (spelling_of_token t) + 1) =
-    ap (λ (n : ℕ). used + n) long ∙ (let e : used + (gap 64 used (length p) + length p) ≡ used_behind used (length p) = omega arith in e) ∙ ap (used_behind used) size in
+    let next : used + length q ≡ used_after used (length (spelling_of_token t) + 1) =
+    ap (λ (n : ℕ). used + n) long ∙ (let e : used + (gap 64 used (length p) + length p) ≡ used_after used (length p) = omega arith in e) ∙ ap (used_after used) size in
     let more = laid 64 comma semi (used + length q) ts in
     let joined : used + length (q ++ more) ≡ (used + length q) + length more = omega (arith, length-append q more) in
     joined ∙ room_laid comma semi (used + length q) ts ∙ ap (λ (n : ℕ). room_of n ts) next

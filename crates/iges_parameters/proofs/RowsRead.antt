@@ -202,8 +202,8 @@ ellipsoid_read ns q h checked =
 
 by_back : (rules : List Rule) (make : List ℤ → Primitive) (p : Place) (x : Primitive × Place) → IsReadAs rules make → prim_by rules make p ≡ Ok x → IsLawfulPrim x.0
 by_back rules make p x lawful h =
-    let (ns, read, behind) = bind_ok (numbers_from rules [] p) (λ ns. checked_prim (make ns.0) >>= λ q. Ok (q, ns.1)) x h in
-    let (q, checked, end) = bind_ok (checked_prim (make ns.0)) (λ q. Ok (q, ns.1)) x behind in
+    let (ns, read, after) = bind_ok (numbers_from rules [] p) (λ ns. checked_prim (make ns.0) >>= λ q. Ok (q, ns.1)) x h in
+    let (q, checked, end) = bind_ok (checked_prim (make ns.0)) (λ q. Ok (q, ns.1)) x after in
     subst IsLawfulPrim (ap (λ (y : Primitive × Place). y.0) (ok_same (q, ns.1) x end)) (lawful ns.0 q (table_back rules p ns read) checked)
 
 -- a primitive that is read is in its ranges

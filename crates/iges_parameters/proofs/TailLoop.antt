@@ -1,4 +1,4 @@
--- The fields behind the defined parameters, read one after the other, as a loop does.
+-- The fields after the defined parameters, read one after the other, as a loop does.
 use Rattle.std.proofs.Common.{◌≡◌, ℕ, suc, ◌+◌, ◌-◌, ◌^◌, ◌<◌, List, [], ◌∷◌, ◌++◌, length, Option, Some, None, Result, Ok, Err, refl, sym, ap, ◌∙◌, arith}
 use Rattle.std.specs.List.{AllByRecursion}
 use Rattle.solid_base.specs.declared.entities.Token.{Token}
@@ -42,7 +42,7 @@ tail_ends tokens old new f total (rest, fields, is) so_far =
     let one : tail_from tokens old.index old.fields ≡ Err (fault.Token old.index) = rw fields refl in
     rw is (token_fails old.index total (sym so_far ∙ one))
 
--- what holds of each item, and of one behind them
+-- what holds of each item, and of one after them
 pub all_pushed : {X : Type 0} (P : X → Type 0) (xs : List X) (x : X) → AllByRecursion P xs → P x → AllByRecursion P (xs ++ x ∷ [])
 all_pushed P [] x all one = (one, tt)
 all_pushed P (y ∷ ys) x all one = (all.0, all_pushed P ys x all.1 one)

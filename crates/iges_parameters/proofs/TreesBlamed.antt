@@ -184,7 +184,7 @@ item_wrong index k before (pos n) h read place = go (nat_lt (length (trees_in be
 
 -- ---- items one after the other
 
--- the number of a field, and the place behind it
+-- the number of a field, and the place after it
 abbrev number_as : ℤ → Place → Result (ℤ × Place) RowFault
 number_as n q = Ok (n, q)
 
@@ -243,7 +243,7 @@ item_stops before n most k first p s h =
                 read = s.fields;
                 index = sym w.0;
                 number = m;
-                behind = t.1;
+                after = t.1;
                 whole = whole_taken p t.0 t.1 m taken whole;
                 wrong = w.1;
               }

@@ -95,11 +95,11 @@ unfolding record_text
 text_kept comma semi r kind form matrix text tail is = ap (λ (x : Row). record_text comma semi x tail) is
 
 -- ---- reading back
--- these lines are of a record that is read as the row and the fields behind it
+-- these lines are of a record that is read as the row and the fields after it
 abbrev pub AreReadAs : ℕ → ℕ → Row → List Token → List (List ℕ) → Type 0
 AreReadAs comma semi r tail lines = IsOfRecord r → record_of (type_of_row r) (form_of_row r) (matrix_of_row r) (fields_of comma semi (concat lines)) ≡ Ok (r, tail)
 
-pub lines_back : (comma semi : ℕ) (r : Row) (tail ts : List Token) (lines : List (List ℕ)) → IsLawfulRow r → ts ≡ tokens_of r tail → ((behind : List ℕ) → Reads comma semi (concat lines ++ behind) ts) → AreReadAs comma semi r tail lines
+pub lines_back : (comma semi : ℕ) (r : Row) (tail ts : List Token) (lines : List (List ℕ)) → IsLawfulRow r → ts ≡ tokens_of r tail → ((after : List ℕ) → Reads comma semi (concat lines ++ after) ts) → AreReadAs comma semi r tail lines
 lines_back comma semi r tail ts lines lawful is reads = λ of_record.
     let fields : fields_of comma semi (concat lines) ≡ map Some (tokens_of r tail) =
     ap (fields_of comma semi) (sym (append-nil (concat lines))) ∙ reads_fields comma semi (concat lines ++ []) ts (reads []) ∙ ap (λ (us : List Token). map Some us) is in

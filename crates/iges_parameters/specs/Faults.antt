@@ -16,11 +16,11 @@ fault_number (fault.BadAxis index) = 8
 fault_number fault.BadMatrix = 9
 fault_number (fault.BadPostfix index) = 10
 
--- the fault isn't want of memory
+-- the fault isn't out of memory
 abbrev pub IsOfText : RowFault → Type 0
 IsOfText f = fault_number f ≢ 1
 
--- the fault's name and its index, a blank between them. Want of memory is never printed, and so has no words
+-- the fault's name and its index, a blank between them. Out of memory is never printed, and so has no words
 abbrev pub fault_words : RowFault → List ℕ
 fault_words (fault.Memory e) = codes ""
 fault_words fault.NotRead = codes "NotRead"
@@ -39,7 +39,7 @@ abbrev pub ◌>>=◌ : {A B : Type 0} → Result A RowFault → (A → Result B 
 (Ok x) >>= f = f x
 (Err e) >>= f = Err e
 
--- want of memory says nothing of the record; another fault is the one that reading gives
+-- out of memory says nothing of the record; another fault is the one that reading gives
 abbrev pub Fails : {Y : Type 0} → RowFault → Result Y RowFault → Type 0
 Fails (fault.Memory e) read = Unit {0}
 Fails fault.NotRead read = read ≡ Err fault.NotRead
@@ -52,7 +52,7 @@ Fails (fault.BadAxis index) read = read ≡ Err (fault.BadAxis index)
 Fails fault.BadMatrix read = read ≡ Err fault.BadMatrix
 Fails (fault.BadPostfix index) read = read ≡ Err (fault.BadPostfix index)
 
--- what a function returned, seen by view, is what reading gives; it may instead say that memory is wanting
+-- what a function returned, seen by view, is what reading gives; it may instead answer out of memory
 abbrev pub Gives : {X Y : Type 0} → (X → Y) → Result X RowFault → Result Y RowFault → Type 0
 Gives view (Ok x) read = read ≡ Ok (view x)
 Gives view (Err f) read = Fails f read

@@ -10,19 +10,19 @@ use Rattle.iges_parameters.specs.Faults.{◌>>=◌}
 use Rattle.iges_parameters.specs.Rules.{Place, token_at, whole_of, numbers_by, parameter}
 use Rattle.iges_parameters.specs.Tables.{list_rules, number, number_or_none}
 
--- how many items a record says, and the place behind
+-- how many items a record says, and the place after
 unfoldable pub count_at : Place → Result (ℕ × Place) RowFault
 count_at p = numbers_by list_rules p >>= λ ns. Ok (unsigned_abs (parameter ns.0 1), ns.1)
 
 -- ---- Boolean trees (IGES 5.3, type 180)
 
--- the trees behind an operation, the last one first: it takes the last two
+-- the trees after an operation, the last one first: it takes the last two
 abbrev pub with_operation : Operation → List Tree → List Tree
 with_operation o [] = []
 with_operation o (b ∷ []) = b ∷ []
 with_operation o (b ∷ a ∷ ts) = combination o a b ∷ ts
 
--- the trees behind an item, the last one first
+-- the trees after an item, the last one first
 abbrev pub with_item : List Tree → Item → List Tree
 with_item ts (item.Operand entity) = operand entity ∷ ts
 with_item ts item.Join = with_operation union ts
@@ -38,25 +38,25 @@ abbrev pub operation_with : ℕ → ℕ → Result Item RowFault
 operation_with index n =
     cond (n == 1) (Ok item.Join) (cond (n == 2) (Ok item.Meet) (cond (n == 3) (Ok item.Less) (Err (fault.BadPostfix index))))
 
--- the item with this number behind these: below 0 it is an operand, else an operation, before which two trees stand at least
+-- the item with this number after these: below 0 it is an operand, else an operation, before which two trees stand at least
 unfoldable pub item_with : ℕ → List Item → ℤ → Result Item RowFault
 item_with index before (negsuc n) = Ok (item.Operand (n + 1))
 item_with index before (pos n) = cond (nat_lt (length (trees_in before)) 2) (Err (fault.BadPostfix index)) (operation_with index n)
 
--- the next item behind these, and the place behind it
+-- the next item after these, and the place after it
 unfoldable pub item_at : List Item → Place → Result (Item × Place) RowFault
 item_at before p = token_at p >>= λ t. whole_of p.index t.0 >>= λ n. item_with p.index before n >>= λ i. Ok (i, t.1)
 
--- so many items more behind these, and the place behind them; behind the last one tree is left, else the number of items is at fault
+-- so many items more after these, and the place after them; after the last one tree is left, else the number of items is at fault
 unfoldable pub items_from : ℕ → List Item → Place → Result (List Item × Place) RowFault
 items_from zero before p = cond (length (trees_in before) == 1) (Ok (before, p)) (Err (fault.BadPostfix 1))
 items_from (suc n) before p = item_at before p >>= λ i. items_from n (before ++ i.0 ∷ []) i.1
 
--- the items of a tree, and the place behind it
+-- the items of a tree, and the place after it
 unfoldable pub tree_at : Place → Result (List Item × Place) RowFault
 tree_at p = count_at p >>= λ n. items_from n.0 [] n.1
 
--- ---- assemblies (IGES 5.3, type 184; that the matrices stand behind all items is solidd's own)
+-- ---- assemblies (IGES 5.3, type 184; that the matrices stand after all items is solidd's own)
 
 -- an item and its matrix, by their numbers
 abbrev pub placed : ℤ → ℤ → Placed
@@ -68,13 +68,13 @@ placed_all [] matrices = []
 placed_all (e ∷ entities) [] = []
 placed_all (e ∷ entities) (m ∷ matrices) = placed e m ∷ placed_all entities matrices
 
--- so many items and then so many matrices, and the place behind them
+-- so many items and then so many matrices, and the place after them
 unfoldable pub placed_at : ℕ → Place → Result (List Placed × Place) RowFault
 placed_at n p =
     numbers_by (replicate n number) p >>= λ es.
     numbers_by (replicate n number_or_none) es.1 >>= λ ms.
     Ok (placed_all es.0 ms.0, ms.1)
 
--- the items of an assembly, and the place behind it
+-- the items of an assembly, and the place after it
 unfoldable pub assembly_at : Place → Result (List Placed × Place) RowFault
 assembly_at p = count_at p >>= λ n. placed_at n.0 n.1

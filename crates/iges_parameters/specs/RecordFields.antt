@@ -1,4 +1,4 @@
--- A record's text as the list of its fields (IGES 5.3, 2.2.3: the parameter delimiter stands between fields, the record delimiter behind the last).
+-- A record's text as the list of its fields (IGES 5.3, 2.2.3: the parameter delimiter stands between fields, the record delimiter after the last).
 use Rattle.std.specs.Prelude.{ℕ, zero, suc, ◌+◌, List, [], ◌∷◌, length, cond, Option, Some, None, Result, Ok, Err}
 use Rattle.solid_base.specs.declared.entities.Token.{Token}
 use Rattle.solid_base.specs.declared.entities.Token.TheVariants as token
@@ -15,7 +15,7 @@ token_of kind.Whole text = token.Whole text
 token_of kind.Real text = token.Real text
 token_of kind.Text text = token.Text text
 
--- a field and those behind it; nothing is read behind the last field, nor behind what is no field, for which None stands
+-- a field and those after it; nothing is read after the last field, nor after what is no field, for which None stands
 abbrev pub listed : (List ℕ → List (Option Token)) → Result Reading FieldFault → List (Option Token)
 listed more (Err e) = None ∷ []
 listed more (Ok f) = Some (token_of f.kind f.text) ∷ cond f.ended [] (more f.rest)

@@ -66,7 +66,7 @@ is_right_angle a b = is_small (dot a b)
 abbrev pub with_axis : Primitive → ℕ → Vec3 → Result Primitive RowFault
 with_axis p index w = cond (is_unit w) (Ok p) (Err (fault.BadAxis index))
 
--- a primitive whose local X axis begins at this index, and its local Z axis three behind
+-- a primitive whose local X axis begins at this index, and its local Z axis three after
 abbrev pub with_axes : Primitive → ℕ → Vec3 → Vec3 → Result Primitive RowFault
 with_axes p index u w = cond (is_unit u) (cond (is_unit w && is_right_angle u w) (Ok p) (Err (fault.BadAxis (index + 3)))) (Err (fault.BadAxis index))
 
@@ -90,11 +90,11 @@ checked_affine a = cond (are_orthonormal (column1 a) (column2 a) (column3 a)) (O
 
 -- ---- primitives
 
--- a primitive by its rules, and the place behind it
+-- a primitive by its rules, and the place after it
 abbrev pub prim_by : List Rule → (List ℤ → Primitive) → Place → Result (Primitive × Place) RowFault
 prim_by rules make p = numbers_by rules p >>= λ ns. checked_prim (make ns.0) >>= λ q. Ok (q, ns.1)
 
--- the primitive of a type, and the place behind it
+-- the primitive of a type, and the place after it
 unfoldable pub prim_at : ℕ → Place → Result (Primitive × Place) RowFault
 prim_at kind p =
     cond (kind == 150) (prim_by block_rules block_of p)

@@ -3,7 +3,7 @@ use Rattle.std.specs.Prelude.{◌≡◌, ℕ, ◌+◌, ◌-◌, ◌≤◌, lengt
 use Rattle.solid_base.specs.Range.{far}
 use Rattle.solid_base.specs.Ranges.{most_whole}
 use Rattle.solid_base.specs.Digits.{number_of}
-use Rattle.solid_base.specs.Spelling.{sign_of, behind_sign}
+use Rattle.solid_base.specs.Spelling.{sign_of, after_sign}
 use Rattle.solid_base.specs.Decimal.{with_sign}
 use Rattle.solid_base.specs.declared.entities.Token.{Token}
 use Rattle.solid_base.specs.declared.entities.Token.TheVariants as token
@@ -31,7 +31,7 @@ Moves count old new = (new.index ≡ old.index + count) × (length new.fields �
 abbrev pub MovesUpTo : ℕ → Place → Place → Type 0
 MovesUpTo most old new = (new.index ≤ old.index + most) × (length new.fields ≤ length old.fields)
 
--- the field with this index, and the place behind it; behind the last field of a record each field is empty
+-- the field with this index, and the place after it; after the last field of a record each field is empty
 abbrev pub next_field : ℕ → List (Option Token) → Result (Token × Place) RowFault
 next_field index [] = Ok (token.Empty, record { index = index + 1; fields = [] })
 next_field index (None ∷ rest) = Err (fault.Token index)
@@ -61,7 +61,7 @@ real_of index (token.Text text) = Err (fault.WrongKind index)
 
 -- the whole number that a text spells
 abbrev pub integer_of : List ℕ → ℤ
-integer_of text = with_sign (sign_of text) (number_of (behind_sign text))
+integer_of text = with_sign (sign_of text) (number_of (after_sign text))
 
 -- a whole number of a magnitude of at most 9,999,999
 abbrev pub short_integer : ℕ → ℤ → Result ℤ RowFault
@@ -123,11 +123,11 @@ value_of rule index before (token.Whole text) = given rule index before (token.W
 value_of rule index before (token.Real text) = given rule index before (token.Real text)
 value_of rule index before (token.Text text) = given rule index before (token.Text text)
 
--- the next parameter by a rule, where these stand before it, and the place behind it
+-- the next parameter by a rule, where these stand before it, and the place after it
 unfoldable pub parameter_at : Rule → List ℤ → Place → Result (ℤ × Place) RowFault
 parameter_at rule before p = token_at p >>= λ t. value_of rule p.index before t.0 >>= λ n. Ok (n, t.1)
 
--- parameters by their rules, from left to right, behind those before, and the place behind them; or the first fault
+-- parameters by their rules, from left to right, after those before, and the place after them; or the first fault
 unfoldable pub numbers_from : List Rule → List ℤ → Place → Result (List ℤ × Place) RowFault
 numbers_from [] before p = Ok (before, p)
 numbers_from (rule ∷ rules) before p = parameter_at rule before p >>= λ n. numbers_from rules (before ++ n.0 ∷ []) n.1

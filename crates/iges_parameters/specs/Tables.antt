@@ -84,7 +84,7 @@ matrix_rules = replicate 12 needed
 unfoldable pub instance_rules : List Rule
 instance_rules = number ∷ []
 
--- IGES 5.3, types 180 and 184: the number of items, behind which the items stand
+-- IGES 5.3, types 180 and 184: the number of items, after which the items stand
 unfoldable pub list_rules : List Rule
 list_rules = count ∷ []
 

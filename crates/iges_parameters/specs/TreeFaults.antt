@@ -11,7 +11,7 @@ use Rattle.iges_parameters.specs.Rules.{Place, token_at, whole_of}
 use Rattle.iges_parameters.specs.Lists.{count_at}
 use Rattle.iges_parameters.specs.Writing.{number_of_item}
 
--- the whole number in the next field, and the place behind it
+-- the whole number in the next field, and the place after it
 unfoldable pub whole_at : Place → Result (ℤ × Place) RowFault
 whole_at p = token_at p >>= λ t. whole_of p.index t.0 >>= λ n. Ok (n, t.1)
 
@@ -20,11 +20,11 @@ abbrev pub AreItems : List Item → Place → Place → Type 0
 AreItems [] p q = p ≡ q
 AreItems (i ∷ items) p q = (r : Place) × (whole_at p ≡ Ok (number_of_item i, r)) × AreItems items r q
 
--- parameter n has this number: it is no item's, or it is an operation's that lacks operands behind these items
+-- parameter n has this number: it is no item's, or it is an operation's that lacks operands after these items
 abbrev pub IsNoItem : ℕ → List Item → ℤ → Type 0
 IsNoItem n before number = (number ≡ pos 0) ⊎ ((pos 3 <ℤ number) ⊎ ((o : Operation) × (number ≡ number_of_item (item_of o)) × LacksOperands n (before ++ item_of o ∷ [])))
 
--- of so many items from this place on, those before parameter n are lawful and whole trees, and parameter n is no item behind them
+-- of so many items from this place on, those before parameter n are lawful and whole trees, and parameter n is no item after them
 pub record StopsAt (n count : ℕ) (first : Place) : Type 0 where
   pub before : List Item
   pub lawful : AllByRecursion IsLawfulItem before
@@ -35,8 +35,8 @@ pub record StopsAt (n count : ℕ) (first : Place) : Type 0 where
   pub read : AreItems before first place
   pub index : n ≡ place.index
   pub number : ℤ
-  pub behind : Place
-  pub whole : whole_at place ≡ Ok (number, behind)
+  pub after : Place
+  pub whole : whole_at place ≡ Ok (number, after)
   pub wrong : IsNoItem n before number
 
 -- so many items from this place on are lawful and whole trees, but none or several of them

@@ -27,7 +27,7 @@ integer_text (negsuc n) = 45 ∷ decimal (n + 1)
 abbrev pub whole : ℤ → Token
 whole n = token.Whole (integer_text n)
 
--- a number of steps, with its twelve decimals less the zeros behind them
+-- a number of steps, with its twelve decimals less the zeros after them
 abbrev pub real : ℤ → Token
 real n = token.Real (real_text n 12)
 
@@ -102,7 +102,7 @@ parameters_of (row.Tree items matrix) = whole (pos 180) ∷ whole (pos (length i
 parameters_of (row.Assembly items matrix) = whole (pos 184) ∷ whole (pos (length items)) ∷ (map (λ p. whole (pos p.item)) items ++ map (λ p. whole (pos p.matrix)) items)
 parameters_of (row.Instance child matrix) = whole (pos 430) ∷ tokens_by instance_rules (pos child ∷ [])
 
--- the tokens of a record: the parameters, and the fields that stand behind them
+-- the tokens of a record: the parameters, and the fields that stand after them
 abbrev pub tokens_of : Row → List Token → List Token
 tokens_of r tail = parameters_of r ++ tail
 

@@ -5,25 +5,25 @@ use Rattle.solid_base.specs.declared.solids.Row.{Row}
 use Rattle.solid_base.specs.declared.solids.Row.TheVariants as row
 use Rattle.iges_fields.specs.Layout.{spelling_of_token, gap}
 
--- how many bytes are laid behind a piece of this size, where so many are laid before it
-abbrev pub used_behind : ℕ → ℕ → ℕ
-used_behind used size = used + gap 64 used size + size
+-- how many bytes are laid after a piece of this size, where so many are laid before it
+abbrev pub used_after : ℕ → ℕ → ℕ
+used_after used size = used + gap 64 used size + size
 
--- how many bytes are laid behind these tokens, each with a delimiter, where so many are laid before them
+-- how many bytes are laid after these tokens, each with a delimiter, where so many are laid before them
 unfoldable pub room_of : ℕ → List Token → ℕ
 room_of used [] = used
-room_of used (t ∷ ts) = room_of (used_behind used (length (spelling_of_token t) + 1)) ts
+room_of used (t ∷ ts) = room_of (used_after used (length (spelling_of_token t) + 1)) ts
 
 -- no tokens take no room
 pub room_none : (used : ℕ) → room_of used [] ≡ used
 unfolding room_of
 room_none used = refl
 
--- tokens take the same room together as one behind the other
+-- tokens take the same room together as one after the other
 pub room_more : (used : ℕ) (ts us : List Token) → room_of (room_of used ts) us ≡ room_of used (ts ++ us)
 unfolding room_of
 room_more used [] us = refl
-room_more used (t ∷ ts) us = room_more (used_behind used (length (spelling_of_token t) + 1)) ts us
+room_more used (t ∷ ts) us = room_more (used_after used (length (spelling_of_token t) + 1)) ts us
 
 -- a row that is laid out by its tokens: each but one that stays as it was read
 abbrev pub IsLaid : Row → Type 0
@@ -35,7 +35,7 @@ IsLaid (row.Tree items matrix) = Unit {0}
 IsLaid (row.Assembly items matrix) = Unit {0}
 IsLaid (row.Instance child matrix) = Unit {0}
 
--- fields stand behind the parameters of a row that is read, and behind no other
+-- fields stand after the parameters of a row that is read, and after no other
 abbrev pub IsTailOf : Row → List Token → Type 0
 IsTailOf row.Null tail = tail ≡ []
 IsTailOf (row.Opaque kind form matrix text) tail = tail ≡ []

@@ -5,12 +5,12 @@ use solid_base::{Bytes, word, word_and_number};
 use std::alloc::{AllocError, Global};
 use thiserror::Error;
 
-/// Why a record isn't read. An index is that of a parameter, counted from 1 behind the type's number,
+/// Why a record isn't read. An index is that of a parameter, counted from 1 after the type's number,
 /// which has index 0.
 #[derive(Clone, Copy, Debug, PartialEq, Eq, Error)]
 pub enum RowFault {
-    /// Memory was wanting.
-    #[error("memory is wanting")]
+    /// Out of memory.
+    #[error("out of memory")]
     Memory(AllocError),
     /// Entities of this type and form aren't read.
     #[error("the type and form aren't read")]
@@ -72,7 +72,7 @@ impl RowFault {
         }
     }
 
-    /// The fault as it is printed: its name and its index. AllocError where memory is wanting. Want of
+    /// The fault as it is printed: its name and its index. AllocError when out of memory. Want of
     /// memory itself is never printed.
     pub fn write_fault(&self, alloc: Global) -> Result<Bytes, AllocError>
         requires { IsOfText self.now }

@@ -12,7 +12,7 @@ ghost use Rattle.iges_parameters.specs.Writing.{tokens_of, IsOfRecord, type_of_r
 
 use crate::faults::RowFault;
 
-/// A row in its ranges, and whatever fields stand behind it, are read back from the tokens that they are
+/// A row in its ranges, and whatever fields stand after it, are read back from the tokens that they are
 /// written with.
 pub fn rows_read_back()
     ensures { (row : Row) (tail : List Token) → IsOfRecord row → IsLawfulRow row →

@@ -1,6 +1,6 @@
 //! The records of entities, read by tables into rows and written again (IGES 5.3, chapter 4).
 //! Contracts see a record's text as the list of its fields, and say of it which row and which fields
-//! behind the row it is, or its first fault; of a row they see the tokens that it is written with.
+//! after the row it is, or its first fault; of a row they see the tokens that it is written with.
 #![tactic(auto)]
 
 mod assemblies;

@@ -8,7 +8,7 @@ use solid_base::{Bytes, Item, push_decimal};
 use std::alloc::Global;
 use std::test::Fail;
 
-/// The fields of a record behind the type's number.
+/// The fields of a record after the type's number.
 fn parameters_of(text: &[u8]) -> Result<Parameters, RowFault>
     ensures { IfOk result (λ parameters. parameters.index ≡ 1) }
 {
@@ -17,7 +17,7 @@ fn parameters_of(text: &[u8]) -> Result<Parameters, RowFault>
     Ok(parameters)
 }
 
-/// The words of a fault. Want of memory is an error of the test.
+/// The words of a fault. Out of memory is an error of the test.
 fn fault_words(alloc: Global, fault: RowFault) -> Result<Bytes, Fail> {
     if fault.number() == 1 {
         return Err(Fail::from(fault));
@@ -25,7 +25,7 @@ fn fault_words(alloc: Global, fault: RowFault) -> Result<Bytes, Fail> {
     Ok(fault.write_fault(alloc)?)
 }
 
-/// The items of a tree, `+`, `*` and `-` for the operations, and behind a bar the index of the next
+/// The items of a tree, `+`, `*` and `-` for the operations, and after a bar the index of the next
 /// parameter; or the words of the fault.
 fn tree_words(alloc: Global, text: &[u8]) -> Result<Bytes, Fail> {
     let mut parameters = parameters_of(text)?;
@@ -48,7 +48,7 @@ fn tree_words(alloc: Global, text: &[u8]) -> Result<Bytes, Fail> {
     Ok(words)
 }
 
-/// The items of an assembly, each with its matrix, and behind a bar the index of the next parameter; or
+/// The items of an assembly, each with its matrix, and after a bar the index of the next parameter; or
 /// the words of the fault.
 fn assembly_words(alloc: Global, text: &[u8]) -> Result<Bytes, Fail> {
     let mut parameters = parameters_of(text)?;

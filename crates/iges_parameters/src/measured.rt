@@ -2,7 +2,7 @@ ghost use Rattle.std.specs.Prelude.{◌≡◌, ◌+◌, ◌-◌, ◌≤◌, ◌<
 ghost use Rattle.solid_base.specs.declared.entities.Token.{Token as token};
 ghost use Rattle.iges_fields.specs.Layout.{spelling_of_token, gap};
 ghost use Rattle.iges_parameters.specs.Writing.{integer_text};
-ghost use Rattle.iges_parameters.specs.WrittenRows.{used_behind, room_of};
+ghost use Rattle.iges_parameters.specs.WrittenRows.{used_after, room_of};
 
 use crate::tokens::TokenSink;
 use decimal_scale::real_length;
@@ -13,7 +13,7 @@ use std::alloc::{AllocError, Global};
 /// The columns of a record's line.
 const WIDTH: u64 = 64;
 
-/// How many bytes tokens take in lines of 64 columns, each with a delimiter behind it. It takes no memory.
+/// How many bytes tokens take in lines of 64 columns, each with a delimiter after it. It takes no memory.
 #[derive(Clone, Copy)]
 pub struct Measure {
     pub used: u64,
@@ -31,26 +31,26 @@ impl TokenSink for Measure {
 
     #[tactic(auto, unfolding(crate::specs::WrittenRows::room_of))]
     fn push_whole(&mut self, _alloc: Global, number: i64) -> Result<(), AllocError> {
-        self.used = used_behind(self.used, whole_length(number))?;
+        self.used = used_after(self.used, whole_length(number))?;
         Ok(())
     }
 
     #[tactic(auto, unfolding(crate::specs::WrittenRows::room_of))]
     fn push_real(&mut self, _alloc: Global, steps: i128) -> Result<(), AllocError> {
-        self.used = used_behind(self.used, real_length(steps, 12))?;
+        self.used = used_after(self.used, real_length(steps, 12))?;
         Ok(())
     }
 
     #[tactic(auto, unfolding(crate::specs::WrittenRows::room_of))]
     fn push_token(&mut self, token: &Token) -> Result<(), AllocError> {
-        self.used = used_behind(self.used, spelling_length(token)?)?;
+        self.used = used_after(self.used, spelling_length(token)?)?;
         Ok(())
     }
 }
 
-/// How many bytes are used behind a token of so many and its delimiter.
-fn used_behind(used: u64, length: usize) -> Result<u64, AllocError>
-    ensures { IfOk result (λ behind. behind ≡ used_behind used (length + 1)) }
+/// How many bytes are used after a token of so many and its delimiter.
+fn used_after(used: u64, length: usize) -> Result<u64, AllocError>
+    ensures { IfOk result (λ after. after ≡ used_after used (length + 1)) }
 {
     let size = (length as u64).checked_add(1).ok_or(AllocError)?;
     let start = used.checked_add(gap(used, size)).ok_or(AllocError)?;

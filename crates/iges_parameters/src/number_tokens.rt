@@ -7,8 +7,8 @@ use crate::tables::{ParamTable, Values};
 use crate::tokens::TokenSink;
 use std::alloc::{AllocError, Global};
 
-/// Writes a type's number, and its parameters by the rules of its table. AllocError where memory is
-/// wanting.
+/// Writes a type's number, and its parameters by the rules of its table. AllocError when out of
+/// memory.
 pub fn push_numbers<S: TokenSink, const N: usize>(
     alloc: Global,
     tokens: &mut S,

@@ -26,7 +26,7 @@ impl<'a> Model for Parameters<'a> {
     ghost view = { λ p. record { index = p.index; fields = fields_left p.fields } };
 }
 
-/// The next field, whose index this is, or None behind the last field of the record.
+/// The next field, whose index this is, or None after the last field of the record.
 fn more_fields<'a>(fields: &mut Fields<'a>, index: u32) -> Result<Option<Field<'a>>, RowFault>
     ensures more { IsMore (record { index = index; fields = fields_left fields.old })
         (record { index = index + 1; fields = fields_left fields.new }) result }
@@ -39,7 +39,7 @@ fn more_fields<'a>(fields: &mut Fields<'a>, index: u32) -> Result<Option<Field<'
     }
 }
 
-/// The next field, whose index this is; behind the last field of the record each is empty.
+/// The next field, whose index this is; after the last field of the record each is empty.
 fn next_field<'a>(fields: &mut Fields<'a>, index: u32) -> Result<Field<'a>, RowFault>
     ensures value { Gives (λ field. (token_of field.kind field.text.now, record { index = index + 1; fields = fields_left fields.new }))
         result (token_at (record { index = index; fields = fields_left fields.old })) }
@@ -76,7 +76,7 @@ impl<'a> Parameters<'a> {
         self.index
     }
 
-    /// The next field; behind the last field of the record each is empty. Token where no field stands.
+    /// The next field; after the last field of the record each is empty. Token where no field stands.
     pub fn token(&mut self) -> Result<Field<'a>, RowFault>
         requires { self.now.index < 2 ^ 32 - 1 }
         ensures value { Gives (λ field. (token_of field.kind field.text.now, self.new)) result (token_at self.old) }
@@ -88,7 +88,7 @@ impl<'a> Parameters<'a> {
         Ok(field)
     }
 
-    /// The next field, or None behind the last field of the record. Token where no field stands.
+    /// The next field, or None after the last field of the record. Token where no field stands.
     pub fn more(&mut self) -> Result<Option<Field<'a>>, RowFault>
         requires { self.now.index < 2 ^ 32 - 1 }
         ensures more { IsMore self.old self.new result }

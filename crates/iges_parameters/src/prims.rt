@@ -68,7 +68,7 @@ pub fn read_prim(kind: u32, parameters: &mut Parameters) -> Result<Prim, RowFaul
     by_tables!(read kind parameters)
 }
 
-/// Writes the type's number and the parameters of a primitive. AllocError where memory is wanting.
+/// Writes the type's number and the parameters of a primitive. AllocError when out of memory.
 pub fn push_prim<S: TokenSink>(alloc: Global, tokens: &mut S, prim: Prim) -> Result<(), AllocError>
     requires near { AllByRecursion (λ n. unsigned_abs n ≤ far) (numbers_of_prim prim) }
     ensures { OnOk result (tokens.new ≡ S.with tokens.old (whole (pos (type_of_prim prim)) ∷ tokens_by (rules_of_prim prim) (numbers_of_prim prim))) }

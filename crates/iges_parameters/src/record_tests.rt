@@ -80,7 +80,7 @@ fn gives_the_first_fault(rt: HostRuntime) -> Result<(), AllocError> {
         (156, 0, b"156,1.,2.,-1.;", RowFault::BadSize(3)),
         (160, 0, b"160,3.,3.;", RowFault::BadSize(2)),
         (160, 0, b"160,3.,0.;", RowFault::BadSize(2)),
-        // Axes, which come behind all parameters and before the tail.
+        // Axes, which come after all parameters and before the tail.
         (150, 0, b"150,1.,1.,1.,,,,2.;", RowFault::BadAxis(7)),
         (
             150,
@@ -370,7 +370,7 @@ fn keeps_the_tail_as_it_is_spelt(rt: HostRuntime) -> Result<(), AllocError> {
     want.push(Token::Empty)?;
     want.push(Token::Real(Bytes::from_vec(Vec::from_slice(alloc, b"1.50")?)))?;
     want.push(Token::Text(Bytes::from_vec(Vec::from_slice(alloc, b"a,;")?)))?;
-    match read(&rt, alloc, 430, 0, b"430,5, +01 ,,1.50,3Ha,; ;behind") {
+    match read(&rt, alloc, 430, 0, b"430,5, +01 ,,1.50,3Ha,; ;after") {
         Ok((_row, tail)) => assert!(rt; tail == want),
         Err(fault) => assert!(rt; false, "{fault:?}"),
     }

@@ -66,7 +66,7 @@ fn row_of(
     }
 }
 
-/// Reads the record of an entity: its row, and the fields behind the row's parameters as they are spelt.
+/// Reads the record of an entity: its row, and the fields after the row's parameters as they are spelt.
 ///
 /// Field 0 is the type's number, and the parameters have the indexes from 1 on. A whole number may stand
 /// where a real is wanted. Where the record ends early, the parameters that don't stand there are empty;
@@ -78,9 +78,9 @@ fn row_of(
 /// units, or above 9,999,999 in a whole number, or below 0 the number of an item or matrix of an assembly
 /// or of an instance's solid; BadSize, a size that isn't above 0, an LTX or R2 out of its range, or a
 /// number of items below 1; BadPostfix, an item that is 0 or above 3, or an operation before which fewer
-/// than two trees stand. Behind the last item comes BadPostfix 1, where other than one tree is left;
-/// behind all parameters BadAxis and BadMatrix; last, Token of a field behind the parameters. Memory comes
-/// where memory is wanting. The delimiters are lawful and differ.
+/// than two trees stand. After the last item comes BadPostfix 1, where other than one tree is left;
+/// after all parameters BadAxis and BadMatrix; last, Token of a field after the parameters. Memory comes
+/// when out of memory. The delimiters are lawful and differ.
 #[tactic(auto, unfolding(crate::specs::Records::record_of))]
 pub fn read_row(
     alloc: Global,

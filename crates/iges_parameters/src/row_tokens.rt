@@ -11,8 +11,8 @@ use crate::tokens::TokenSink;
 use solid_base::{Affine, Entity, Item, Placed, Row, Token};
 use std::alloc::{AllocError, Global};
 
-/// Writes the tokens of an entity's record: the type's number, the parameters, and the fields behind
-/// them. AllocError where memory is wanting.
+/// Writes the tokens of an entity's record: the type's number, the parameters, and the fields after
+/// them. AllocError when out of memory.
 pub fn push_record<S: TokenSink>(
     alloc: Global,
     tokens: &mut S,

@@ -29,7 +29,7 @@ fn push_field(alloc: Global, tokens: &mut Tokens, field: &Field) -> Result<(), A
     tokens.push(token_of(alloc, field)?)
 }
 
-/// The fields behind the defined parameters, up to the end of the record.
+/// The fields after the defined parameters, up to the end of the record.
 pub fn read_tail(alloc: Global, parameters: &mut Parameters) -> Result<Tokens, RowFault>
     requires few { parameters.now.index + length parameters.now.fields < 2 ^ 32 - 1 }
     ensures value { Gives (λ tail. tail) result (tail_from [] parameters.old.index parameters.old.fields) }

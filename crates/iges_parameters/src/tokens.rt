@@ -8,21 +8,21 @@ use itoa::Buffer;
 use solid_base::{Bytes, Token, Tokens};
 use std::alloc::{AllocError, Global};
 
-/// What the tokens of a record go into, one behind the other: it keeps them, or measures them.
+/// What the tokens of a record go into, one after the other: it keeps them, or measures them.
 pub trait TokenSink {
-    /// What it is behind these tokens.
+    /// What it is after these tokens.
     ghost with: { Self → List token → Self };
 
-    /// Takes a whole number. AllocError where memory is wanting.
+    /// Takes a whole number. AllocError when out of memory.
     fn push_whole(&mut self, alloc: Global, number: i64) -> Result<(), AllocError>
         ensures { OnOk result (self.new ≡ with self.old (whole number ∷ [])) };
 
-    /// Takes a real number of steps. AllocError where memory is wanting.
+    /// Takes a real number of steps. AllocError when out of memory.
     fn push_real(&mut self, alloc: Global, steps: i128) -> Result<(), AllocError>
         requires { unsigned_abs steps ≤ far }
         ensures { OnOk result (self.new ≡ with self.old (real steps ∷ [])) };
 
-    /// Takes a token as it is. AllocError where memory is wanting.
+    /// Takes a token as it is. AllocError when out of memory.
     fn push_token(&mut self, token: &Token) -> Result<(), AllocError>
         ensures { OnOk result (self.new ≡ with self.old (token.now ∷ [])) };
 

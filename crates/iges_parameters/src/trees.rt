@@ -17,7 +17,7 @@ use std::alloc::Global;
 /// The parameter that says how many items there are.
 const NUMBER_OF_ITEMS: u32 = 1;
 
-/// The item with this number behind items that are so many trees, and how many trees there are with it.
+/// The item with this number after items that are so many trees, and how many trees there are with it.
 /// BadPostfix where a number from 0 on is no operation, or fewer than two trees stand before it.
 #[tactic(auto, unfolding(crate::specs::Lists::item_with))]
 fn item_with(index: u32, trees: u32, number: i128) -> Result<(Item, u32), RowFault>
@@ -42,7 +42,7 @@ fn item_with(index: u32, trees: u32, number: i128) -> Result<(Item, u32), RowFau
     Ok((item, trees - 1))
 }
 
-/// The next item behind items that are so many trees, and how many trees there are with it.
+/// The next item after items that are so many trees, and how many trees there are with it.
 #[tactic(auto, unfolding(crate::specs::Lists::item_at))]
 fn next_item(parameters: &mut Parameters, trees: u32) -> Result<(Item, u32), RowFault>
     requires index { parameters.now.index < 2 ^ 32 - 1 }
@@ -71,9 +71,9 @@ fn items(alloc: Global, parameters: &mut Parameters, count: u32) -> Result<Items
     let mut items = Items::new(alloc);
     let mut trees = 0;
     for _ in 0..count {
-        let (item, behind) = next_item(parameters, trees)?;
+        let (item, after) = next_item(parameters, trees)?;
         items.push(item)?;
-        trees = behind;
+        trees = after;
     }
     if trees != 1 {
         return Err(RowFault::BadPostfix(NUMBER_OF_ITEMS));

@@ -18,9 +18,9 @@ use std::alloc::{AllocError, Global};
 const WIDTH: usize = 64;
 
 /// The lines of 64 columns in which an entity's record is written: the type's number, the parameters,
-/// those with a default too, and the fields behind them, each with `comma` behind it and the last with
-/// `semi`. A record that isn't read stands as it was, in one line at least. AllocError where memory is
-/// wanting.
+/// those with a default too, and the fields after them, each with `comma` after it and the last with
+/// `semi`. A record that isn't read stands as it was, in one line at least. AllocError when out of
+/// memory.
 pub fn row_lines(alloc: Global, entity: &Entity, comma: u8, semi: u8) -> Result<Lines, AllocError>
     requires lawful { IsLawfulRow entity.now.row }
     requires spelt { AreSpelt entity.now.tail }
@@ -28,7 +28,7 @@ pub fn row_lines(alloc: Global, entity: &Entity, comma: u8, semi: u8) -> Result<
     requires delimiters { AreDelimiters comma semi }
     ensures lines { IfOk result (AreLines 64 (record_text comma semi entity.now.row entity.now.tail)) }
 
-    // A record that is read is read back as the row and the fields behind it.
+    // A record that is read is read back as the row and the fields after it.
     ensures reads_back { IfOk result (λ lines. IsOfRecord entity.now.row →
         record_of (type_of_row entity.now.row) (form_of_row entity.now.row) (matrix_of_row entity.now.row) (fields_of comma semi (concat lines))
         ≡ Ok (entity.now.row, entity.now.tail)) }
@@ -129,9 +129,9 @@ fn lines_of(alloc: Global, text: &[u8]) -> Result<Lines, AllocError>
     let mut lines = Lines::new(alloc);
     let mut rest = text;
     while !rest.is_empty() {
-        let (front, behind) = rest.split_at(rest.len().min(WIDTH));
+        let (front, after) = rest.split_at(rest.len().min(WIDTH));
         lines.push(filled(alloc, front, WIDTH)?)?;
-        rest = behind;
+        rest = after;
     }
     Ok(lines)
 }

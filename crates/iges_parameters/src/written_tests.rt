@@ -17,7 +17,7 @@ const Y: Vec3 = Vec3 { x: 0, y: U, z: 0 };
 
 const Z: Vec3 = Vec3 { x: 0, y: 0, z: U };
 
-/// Whether the lines of a row with these fields behind it are these, with blanks behind each, and are counted.
+/// Whether the lines of a row with these fields after it are these, with blanks after each, and are counted.
 fn has_lines(alloc: Global, row: Row, tail: Tokens, want: &[&str]) -> Result<bool, AllocError>
     requires lawful { IsLawfulRow row }
     requires spelt { AreSpelt tail }
@@ -39,7 +39,7 @@ fn has_lines(alloc: Global, row: Row, tail: Tokens, want: &[&str]) -> Result<boo
     Ok(alike && count == want.len() as u64)
 }
 
-/// Whether a line of 64 columns is this text with blanks behind it.
+/// Whether a line of 64 columns is this text with blanks after it.
 fn is_line(line: &[u8], text: &[u8]) -> bool {
     line.len() == 64
         && line.starts_with(text)
@@ -229,7 +229,7 @@ fn padded(alloc: Global) -> Result<Token, AllocError>
 }
 
 #[test]
-fn writes_the_fields_behind(rt: HostRuntime) -> Result<(), AllocError> {
+fn writes_the_fields_after(rt: HostRuntime) -> Result<(), AllocError> {
     let alloc = rt.alloc();
     let text = Bytes::from_vec(Vec::from_slice(alloc, b"a;b")?);
     let mut tail = Tokens::new(alloc);

@@ -9,7 +9,7 @@ pub record IsReader {X : Type 0} (Item : ℕ → List ℕ → X → Type 0) (ite
   pub again : (k : ℕ) (text rest : List ℕ) (x : X) → Item k text x → item_at k (text ++ rest) ≡ Some (x, rest)
   pub takes : (k : ℕ) (bytes rest : List ℕ) (x : X) → item_at k bytes ≡ Some (x, rest) → (text : List ℕ) × Item k text x × (bytes ≡ text ++ rest)
 
--- one item more behind the others
+-- one item more after the others
 pub Spells-more : {X : Type 0} (Item : ℕ → List ℕ → X → Type 0) (k : ℕ) (text last : List ℕ) (xs : List X) (x : X) → Spells Item k text xs → Item (k + length xs) last x
     → Spells Item k (text ++ last) (xs ++ x ∷ [])
 Spells-more Item k text last [] x h l =
@@ -42,9 +42,9 @@ series_split {X} Item item_at r k s t p q (x ∷ xs) (y ∷ ys) h g e l =
     let one : item_at k (first ++ (more ++ p)) ≡ Some (x, more ++ p) = r.again k first (more ++ p) x is in
     let two : item_at k (first' ++ (more' ++ q)) ≡ Some (y, more' ++ q) = r.again k first' (more' ++ q) y is' in
     let same : first ++ (more ++ p) ≡ first' ++ (more' ++ q) = sym left ∙ e ∙ right in
-    let (item, behind) = same_pair x y (more ++ p) (more' ++ q) (sym one ∙ ap (item_at k) same ∙ two) in
+    let (item, after) = same_pair x y (more ++ p) (more' ++ q) (sym one ∙ ap (item_at k) same ∙ two) in
     let less : length xs ≤ length ys = omega arith in
-    let (zs, u, rows, spells, tail) = series_split Item item_at r (suc k) more more' p q xs ys rest rest' behind less in
+    let (zs, u, rows, spells, tail) = series_split Item item_at r (suc k) more more' p q xs ys rest rest' after less in
     let at : suc k + length xs ≡ k + suc (length xs) = omega arith in
     (zs, u, ap (λ a. a ∷ ys) (sym item) ∙ ap (λ l. x ∷ l) rows, subst (λ j. Spells Item j u zs) at spells, tail)
 
@@ -100,11 +100,11 @@ series_goes_on {X} Item item_at r k s t p q xs ys h g e l stop =
     omega arith
 
 -- one item more is read
-pub read_step : {X : Type 0} (Item : ℕ → List ℕ → X → Type 0) (item_at : ℕ → List ℕ → Option (X × List ℕ)) → IsReader Item item_at → (k : ℕ) (bytes rest behind : List ℕ) (xs : List X) (x : X)
-    → HasRead Item k bytes rest xs → item_at (k + length xs) rest ≡ Some (x, behind) → HasRead Item k bytes behind (xs ++ x ∷ [])
-read_step Item item_at r k bytes rest behind xs x h e =
-    let (text, is, front) = r.takes (k + length xs) rest behind x e in
-    record { text = h.text ++ text; spells = Spells-more Item k h.text text xs x h.spells is; split = h.split ∙ ap (λ t. h.text ++ t) front ∙ sym (append_assoc h.text text behind) }
+pub read_step : {X : Type 0} (Item : ℕ → List ℕ → X → Type 0) (item_at : ℕ → List ℕ → Option (X × List ℕ)) → IsReader Item item_at → (k : ℕ) (bytes rest after : List ℕ) (xs : List X) (x : X)
+    → HasRead Item k bytes rest xs → item_at (k + length xs) rest ≡ Some (x, after) → HasRead Item k bytes after (xs ++ x ∷ [])
+read_step Item item_at r k bytes rest after xs x h e =
+    let (text, is, front) = r.takes (k + length xs) rest after x e in
+    record { text = h.text ++ text; spells = Spells-more Item k h.text text xs x h.spells is; split = h.split ∙ ap (λ t. h.text ++ t) front ∙ sym (append_assoc h.text text after) }
 
 pub read_none : {X : Type 0} (Item : ℕ → List ℕ → X → Type 0) (k : ℕ) (bytes : List ℕ) → HasRead Item k bytes bytes []
 read_none Item k bytes = record { text = []; spells = refl; split = refl }

@@ -61,7 +61,7 @@ matrices_of (p ∷ items) = matrix_named p.matrix ++ matrices_of items
 unfoldable pub references_of : Row → List Reference
 references_of row.Null = []
 references_of (row.Opaque kind form matrix text) = []
--- IGES 5.3, type 124: a matrix names the one that is applied behind it
+-- IGES 5.3, type 124: a matrix names the one that is applied after it
 references_of (row.Matrix form affine next) = matrix_named next
 references_of (row.Prim p matrix) = matrix_named matrix
 references_of (row.Tree items matrix) = matrix_named matrix ++ operands_of items

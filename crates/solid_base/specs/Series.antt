@@ -6,7 +6,7 @@ abbrev pub Spells : {X : Type 0} → (ℕ → List ℕ → X → Type 0) → ℕ
 Spells Item k text [] = text ≡ []
 Spells Item k text (x ∷ xs) = (first more : List ℕ) × (text ≡ first ++ more) × Item k first x × Spells Item (suc k) more xs
 
--- items that were read from the front of the bytes, and the rest behind them
+-- items that were read from the front of the bytes, and the rest after them
 pub record HasRead {X : Type 0} (Item : ℕ → List ℕ → X → Type 0) (k : ℕ) (bytes rest : List ℕ) (xs : List X) : Type 0 where
   pub text : List ℕ
   pub spells : Spells Item k text xs

@@ -59,7 +59,7 @@ exponent_text (Some e) = e.letter ∷ (sign_text e.sign ++ e.digits)
 abbrev pub number_text : Number → List ℕ
 number_text n = sign_text n.sign ++ (n.whole ++ (fraction_text n.fraction ++ exponent_text n.exponent))
 
--- the digits behind the point
+-- the digits after the point
 abbrev pub decimals_of : Option (List ℕ) → List ℕ
 decimals_of None = []
 decimals_of (Some decimals) = decimals
@@ -69,7 +69,7 @@ abbrev pub IsExponent : Option Exponent → Type 0
 IsExponent None = Unit {0}
 IsExponent (Some e) = IsTrue (is_exponent_letter e.letter) × AreDigits e.digits × (0 < length e.digits)
 
--- a number has a digit before or behind its point
+-- a number has a digit before or after its point
 pub record IsNumber (n : Number) : Type 0 where
   pub whole : AreDigits n.whole
   pub decimals : AreDigits (decimals_of n.fraction)
@@ -98,10 +98,10 @@ IsNumeral text = IsWhole text ⊎ IsReal text
 -- ---- the test: what a text is, found from the left
 
 -- the text without the blanks before it
-abbrev pub behind_blanks : List ℕ → List ℕ
-behind_blanks text = drop (prefix_len is_blank text) text
+abbrev pub after_blanks : List ℕ → List ℕ
+after_blanks text = drop (prefix_len is_blank text) text
 
--- the text without the blanks behind it
+-- the text without the blanks after it
 abbrev pub before_blanks : List ℕ → List ℕ
 before_blanks text = take (length text - suffix_len is_blank text) text
 
@@ -110,22 +110,22 @@ abbrev pub sign_of : List ℕ → Sign
 sign_of [] = NoSign
 sign_of (b ∷ bs) = cond (b == 43) Plus (cond (b == 45) Minus NoSign)
 
-abbrev pub behind_sign : List ℕ → List ℕ
-behind_sign [] = []
-behind_sign (b ∷ bs) = cond (is_sign b) bs (b ∷ bs)
+abbrev pub after_sign : List ℕ → List ℕ
+after_sign [] = []
+after_sign (b ∷ bs) = cond (is_sign b) bs (b ∷ bs)
 
 -- how many digits stand in front
 abbrev pub digit_count : List ℕ → ℕ
 digit_count text = prefix_len is_digit text
 
-abbrev pub behind_digits : List ℕ → List ℕ
-behind_digits text = drop (prefix_len is_digit text) text
+abbrev pub after_digits : List ℕ → List ℕ
+after_digits text = drop (prefix_len is_digit text) text
 
 -- a sign or none, one or more digits, and no more
 abbrev pub is_whole : List ℕ → Bool
-is_whole text = not (digit_count (behind_sign text) == 0) && (digit_count (behind_sign text) == length (behind_sign text))
+is_whole text = not (digit_count (after_sign text) == 0) && (digit_count (after_sign text) == length (after_sign text))
 
--- what may stand behind the decimals: nothing, or a letter and a power
+-- what may stand after the decimals: nothing, or a letter and a power
 abbrev pub is_exponent : List ℕ → Bool
 is_exponent [] = true
 is_exponent (b ∷ bs) = is_exponent_letter b && is_whole bs
@@ -136,34 +136,34 @@ pub data Spelling : Type 0 where
   Whole : Spelling
   Real : Spelling
 
--- what a number is, by the count of its whole digits and the text behind them
-abbrev pub class_behind : ℕ → List ℕ → Option Spelling
-class_behind whole [] = cond (whole == 0) None (Some Whole)
-class_behind whole (b ∷ bs) =
+-- what a number is, by the count of its whole digits and the text after them
+abbrev pub class_with_rest : ℕ → List ℕ → Option Spelling
+class_with_rest whole [] = cond (whole == 0) None (Some Whole)
+class_with_rest whole (b ∷ bs) =
     cond (b == 46)
-    (cond (not (whole + digit_count bs == 0) && is_exponent (behind_digits bs)) (Some Real) None)
+    (cond (not (whole + digit_count bs == 0) && is_exponent (after_digits bs)) (Some Real) None)
     (cond (not (whole == 0) && is_exponent (b ∷ bs)) (Some Real) None)
 
 -- what a text is: empty, a whole number, a real number, or none of these
 abbrev pub class_of : List ℕ → Option Spelling
 class_of [] = Some Empty
-class_of (b ∷ bs) = class_behind (digit_count (behind_sign (b ∷ bs))) (behind_digits (behind_sign (b ∷ bs)))
+class_of (b ∷ bs) = class_with_rest (digit_count (after_sign (b ∷ bs))) (after_digits (after_sign (b ∷ bs)))
 
 -- ---- the parts of a text
 
--- the power of ten that stands behind the decimals
+-- the power of ten that stands after the decimals
 abbrev pub exponent_of : List ℕ → Option Exponent
 exponent_of [] = None
-exponent_of (b ∷ bs) = Some (record { letter = b; sign = sign_of bs; digits = behind_sign bs })
+exponent_of (b ∷ bs) = Some (record { letter = b; sign = sign_of bs; digits = after_sign bs })
 
--- the parts of a number, by its sign, its whole digits and the text behind them
-abbrev pub number_behind : Sign → List ℕ → List ℕ → Number
-number_behind sign whole [] = record { sign = sign; whole = whole; fraction = None; exponent = None }
-number_behind sign whole (b ∷ bs) =
+-- the parts of a number, by its sign, its whole digits and the text after them
+abbrev pub number_with_rest : Sign → List ℕ → List ℕ → Number
+number_with_rest sign whole [] = record { sign = sign; whole = whole; fraction = None; exponent = None }
+number_with_rest sign whole (b ∷ bs) =
     cond (b == 46)
-    (record { sign = sign; whole = whole; fraction = Some (take (digit_count bs) bs); exponent = exponent_of (behind_digits bs) })
+    (record { sign = sign; whole = whole; fraction = Some (take (digit_count bs) bs); exponent = exponent_of (after_digits bs) })
     (record { sign = sign; whole = whole; fraction = None; exponent = exponent_of (b ∷ bs) })
 
 -- the parts of a text that is a number
 abbrev pub number_of_text : List ℕ → Number
-number_of_text text = number_behind (sign_of text) (take (digit_count (behind_sign text)) (behind_sign text)) (behind_digits (behind_sign text))
+number_of_text text = number_with_rest (sign_of text) (take (digit_count (after_sign text)) (after_sign text)) (after_digits (after_sign text))

@@ -42,7 +42,7 @@ impl<'a> BorrowedLines<'a> {
         self.items[at]
     }
 
-    /// Adds a line at the end. Where memory is wanting the lines are unchanged.
+    /// Adds a line at the end. When out of memory the lines are unchanged.
     pub fn push(&mut self, line: &'a [u8]) -> Result<(), AllocError>
         ensures ok { OnOk result (self.new ≡ self.old ++ line.now ∷ []) }
         ensures err { OnErr result (self.new ≡ self.old) }

@@ -14,7 +14,7 @@ pub enum Token {
 /// Fields, in order.
 pub type Tokens = List<Token>;
 
-/// One entity: its row, the 96 bytes of directory fields that are kept unread, and the fields behind
+/// One entity: its row, the 96 bytes of directory fields that are kept unread, and the fields after
 /// its defined parameters.
 #[derive(Debug, Drop, Clone, PartialEq, Eq)]
 pub struct Entity {

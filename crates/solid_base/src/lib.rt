@@ -27,7 +27,7 @@ pub use lists::{Bytes, Lines, List, Numbers};
 pub use references::reference_list;
 pub use replies::Reply;
 pub use rows::Rows;
-pub use scan::{after_sign, are_blanks, behind_blanks, digit_count, number_up_to};
+pub use scan::{after_blanks, after_sign, are_blanks, digit_count, number_up_to};
 pub use solids::{Item, Items, Placed, PlacedList, Primitive as Prim, Row};
 pub use verdicts::Verdicts;
 pub use words::{push_decimal, word, word_and_number};

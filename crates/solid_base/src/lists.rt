@@ -87,7 +87,7 @@ impl<T> List<T> {
 }
 
 impl<T: Drop> List<T> {
-    /// Adds an item at the end. Where memory is wanting the list is unchanged.
+    /// Adds an item at the end. When out of memory the list is unchanged.
     pub fn push(&mut self, item: T) -> Result<(), AllocError>
         ensures ok { OnOk result (self.new ≡ self.old ++ item ∷ []) }
         ensures err { OnErr result (self.new ≡ self.old) }
@@ -98,7 +98,7 @@ impl<T: Drop> List<T> {
 }
 
 impl<T: Copy> List<T> {
-    /// Adds items at the end. Where memory is wanting the list is unchanged.
+    /// Adds items at the end. When out of memory the list is unchanged.
     pub fn extend_from_slice(&mut self, items: &[T]) -> Result<(), AllocError>
         ensures ok { OnOk result (self.new ≡ self.old ++ items.now) }
         ensures err { OnErr result (self.new ≡ self.old) }

@@ -45,8 +45,8 @@ fn push_matrices(numbers: &mut Numbers, items: &[Placed]) -> Result<(), AllocErr
 }
 
 /// The numbers that a row names, in order: its own matrix where it isn't 0, of a matrix the one that is
-/// applied behind it; then the operands of a tree, or the items of an assembly and behind them their
-/// matrices that aren't 0, or the solid of an instance. AllocError where memory is wanting.
+/// applied after it; then the operands of a tree, or the items of an assembly and after them their
+/// matrices that aren't 0, or the solid of an instance. AllocError when out of memory.
 #[tactic(auto, unfolding(crate::specs::References::references_of))]
 pub fn reference_list(alloc: Global, row: &Row) -> Result<Numbers, AllocError>
     ensures { IfOk result (λ numbers. numbers ≡ references row.now) }

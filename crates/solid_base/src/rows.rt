@@ -78,7 +78,7 @@ impl Rows {
         }
     }
 
-    /// Adds an entity at the end. Where memory is wanting the rows are unchanged.
+    /// Adds an entity at the end. When out of memory the rows are unchanged.
     pub fn push(&mut self, item: Arc<Entity>) -> Result<(), AllocError>
         ensures ok { OnOk result (self.new ≡ self.old ++ arc_value item ∷ []) }
         ensures err { OnErr result (self.new ≡ self.old) }

@@ -1,7 +1,7 @@
 ghost use Rattle.std.specs.Prelude.{◌≡◌, ◌≤◌, length, take, min, All, IsTrue};
 ghost use Rattle.std.specs.List.{list_all, prefix_len};
 ghost use Rattle.solid_base.specs.Digits.{is_digit, number_of};
-ghost use Rattle.solid_base.specs.Spelling.{is_blank, behind_blanks, digit_count, behind_sign};
+ghost use Rattle.solid_base.specs.Spelling.{is_blank, after_blanks, digit_count, after_sign};
 
 /// How many digits stand in front of a text.
 pub fn digit_count(text: &[u8]) -> usize
@@ -27,9 +27,9 @@ pub fn number_up_to(digits: &[u8], most: u64) -> u64
     number
 }
 
-/// The text behind its sign; the whole text where it has none.
+/// The text after its sign; the whole text where it has none.
 pub fn after_sign(text: &[u8]) -> &[u8]
-    ensures value { result.now ≡ behind_sign text.now }
+    ensures value { result.now ≡ after_sign text.now }
     ensures within { length result.now ≤ length text.now }
 {
     match text {
@@ -55,8 +55,8 @@ fn blanks_before(text: &[u8]) -> usize
 }
 
 /// The text without the blanks before it.
-pub fn behind_blanks(text: &[u8]) -> &[u8]
-    ensures { result.now ≡ behind_blanks text.now }
+pub fn after_blanks(text: &[u8]) -> &[u8]
+    ensures { result.now ≡ after_blanks text.now }
 {
     &text[blanks_before(text)..]
 }
@@ -87,7 +87,7 @@ mod tests {
 
     #[test]
     fn skips_signs_and_blanks(rt: HostRuntime) {
-        for (text, behind) in [
+        for (text, after) in [
             ("", ""),
             ("12 ", "12 "),
             (" \t 12", "12"),
@@ -96,8 +96,8 @@ mod tests {
             ("+-12", "-12"),
         ] {
             assert_eq!(rt;
-                after_sign(behind_blanks(text.as_bytes())),
-                behind.as_bytes(),
+                after_sign(after_blanks(text.as_bytes())),
+                after.as_bytes(),
                 "{text}"
             );
         }

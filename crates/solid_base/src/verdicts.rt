@@ -64,7 +64,7 @@ impl Verdicts {
         self.items.is_empty()
     }
 
-    /// Makes the spare room at least `n`. Where memory is wanting nothing is changed.
+    /// Makes the spare room at least `n`. When out of memory nothing is changed.
     pub fn reserve(&mut self, n: usize) -> Result<(), AllocError>
         ensures list { self.new.list ≡ self.old.list }
         ensures ok { OnOk result (self.new.spare ≡ max self.old.spare n) }
@@ -78,7 +78,7 @@ impl Verdicts {
     }
 
     /// Adds a verdict at the end. Where there is spare room it can't fail, and there is one less of it.
-    /// Where memory is wanting nothing is changed.
+    /// When out of memory nothing is changed.
     pub fn push(&mut self, item: Verdict) -> Result<(), AllocError>
         ensures room { 0 < self.old.spare → IsOk result }
         ensures ok { OnOk result (self.new.list ≡ self.old.list ++ item ∷ []) }

@@ -13,7 +13,7 @@ pub fn word(alloc: Global, text: &[u8]) -> Result<Bytes, AllocError>
     Ok(words)
 }
 
-/// Writes a number behind a text, in decimal.
+/// Writes a number after a text, in decimal.
 pub fn push_decimal(words: &mut Bytes, number: u32) -> Result<(), AllocError>
     ensures { OnOk result (words.new ≡ words.old ++ decimal number) }
 {
@@ -21,7 +21,7 @@ pub fn push_decimal(words: &mut Bytes, number: u32) -> Result<(), AllocError>
     words.extend_from_slice(buffer.format(number).as_bytes())
 }
 
-/// A text and a number behind it, in decimal.
+/// A text and a number after it, in decimal.
 pub fn word_and_number(alloc: Global, text: &[u8], number: u32) -> Result<Bytes, AllocError>
     ensures { IfOk result (λ words. words ≡ text.now ++ decimal number) }
 {

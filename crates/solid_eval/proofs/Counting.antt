@@ -17,7 +17,7 @@ no_tick old most h = (omega (arith, h), h, omega arith)
 pub one_tick : (old new : ℕ) → new ≡ min (old + 1) most_count → RisesUpTo old new 1
 one_tick old new is h = (omega (arith, is, h), omega (arith, is), omega (arith, is))
 
--- ticks behind one another
+-- ticks after one another
 pub then_ticks : (old middle new first second : ℕ) → RisesUpTo old middle first → RisesUpTo middle new second → RisesUpTo old new (first + second)
 then_ticks old middle new first second f s h = let a = f h in let b = s a.1 in (omega (arith, a.0, b.0), b.1, omega (arith, a.2, b.2))
 
@@ -40,7 +40,7 @@ rising_more old now new all more rest f r = record { used = r.used + more; rises
 pub risen : (old now all rest : ℕ) → Rising old now all rest → RisesUpTo old now all
 risen old now all rest r = up_to old now r.used all (omega (arith, r.sum)) r.rises
 
--- and no further where memory is wanting
+-- and no further when out of memory
 pub risen_more : (old now new all more rest : ℕ) → RisesUpTo now new more → Rising old now all (more + rest) → RisesUpTo old new all
 risen_more old now new all more rest f r = risen old new all rest (rising_more old now new all more rest f r)
 

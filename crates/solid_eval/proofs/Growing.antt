@@ -126,7 +126,7 @@ module _ (child : ℕ → Solid) (items : List Item) (at : Span3) (base : List V
           goes = p.goes;
         }
 
-    -- behind the last item the stack ends in the verdict on the whole
+    -- after the last item the stack ends in the verdict on the whole
     pub growing_end : (stack : List Verdict) (place : ℕ) → length items ≤ place → Growing child items at base stack (drop place items) → stack ≡ base ++ written solid at ∷ []
     growing_end stack place done h =
         let e = subst (λ r. grown child r h.so_far ≡ grown child items []) (drop_of_length-le items done) h.goes in

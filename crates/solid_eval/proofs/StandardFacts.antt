@@ -23,7 +23,7 @@ module _ (p : Primitive) (first second : Affine) where
   abbrev pub part : Solid
   part = entity 1 (moved (first ∷ []) (primitive 1 p))
 
-  -- an instance moves its solid behind that solid's own matrix, through the whole chain
+  -- an instance moves its solid after that solid's own matrix, through the whole chain
   pub instance : solid_of (model (row.Instance 1 5)) 7 ≡ entity 7 (moved (second ∷ first ∷ []) part)
   unfolding row_at chain_of chain_within solid_of solid_within
   instance = refl

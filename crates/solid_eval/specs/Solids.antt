@@ -73,7 +73,7 @@ row_solid chain child e (row.Matrix form affine next) = nothing
 row_solid chain child e (row.Prim p matrix) = entity e (moved (chain matrix) (primitive e p))
 row_solid chain child e (row.Tree items matrix) = entity e (moved (chain matrix) (spelt child items))
 row_solid chain child e (row.Assembly items matrix) = entity e (moved (chain matrix) (united chain child nothing items))
--- IGES 5.3, type 430: an instance is the solid that it names, moved by its own chain behind that solid's
+-- IGES 5.3, type 430: an instance is the solid that it names, moved by its own chain after that solid's
 row_solid chain child e (row.Instance number matrix) = entity e (moved (chain matrix) (child number))
 
 -- solidd's own: the solid of an entity, of which so many levels are counted

@@ -31,7 +31,7 @@ const OUTSIDE: Verdict = Verdict {
 
 /// The verdict on an entity over a box, each primitive being evaluated as often as it stands: at
 /// most as many evaluations are counted as the entity weighs, and so at most 2^20. The graph is that
-/// of the rows. AllocError where memory is wanting.
+/// of the rows. AllocError when out of memory.
 #[tactic(auto, unfolding(crate::specs::Solids::solid_of))]
 pub fn afresh<L: Ledger>(
     alloc: Global,

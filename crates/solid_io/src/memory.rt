@@ -162,7 +162,7 @@ mod tests {
     use super::*;
 
     #[test]
-    fn a_source_goes_on_behind_a_failing_call(rt: HostRuntime) -> Result<(), AllocError> {
+    fn a_source_goes_on_after_a_failing_call(rt: HostRuntime) -> Result<(), AllocError> {
         let alloc = rt.alloc();
         let bytes = Bytes::from_vec(vec![in alloc; 1, 2, 3, 4, 5]?);
         let mut source = MemSource::new(bytes, Numbers::from_vec(vec![in alloc; 1]?));

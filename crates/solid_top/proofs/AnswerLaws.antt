@@ -29,7 +29,7 @@ replies-push [] words = append-nil (reply_text (reply_of words))
 replies-push (a ∷ others) words =
     ap (λ t. reply_text (reply_of a) ++ t) (replies-push others words) ∙ sym (append_assoc (reply_text (reply_of a)) (flat_map reply_text (map reply_of others)) (reply_text (reply_of words)))
 
--- one question more is evaluated behind the others
+-- one question more is evaluated after the others
 evaluations-push : (rows : List Entity) (questions : List PointQuestion) (question : PointQuestion) → most_evaluations rows (questions ++ question ∷ []) ≡ most_evaluations rows questions + weight_of rows question.entity
 evaluations-push rows [] question = omega arith
 evaluations-push rows (q ∷ qs) question = omega (arith, evaluations-push rows qs question)
@@ -90,16 +90,16 @@ replied_none rows script out start = record {
 }
 
 -- one line more
-pub replied_step : (rows : List Entity) (script rest behind out old new : List ℕ) (count start ticks now : ℕ) (question : PointQuestion) (words : List ℕ) → Replied rows script rest out old count start ticks
-    → point_at rest ≡ Some (question, behind) → IsAnswer rows question words → new ≡ old ++ reply_text (reply_of words) → RisesUpTo ticks now (weight_of rows question.entity)
-    → Replied rows script behind out new (count + 1) start now
-replied_step rows script rest behind out old new count start ticks now question words h e a w c =
+pub replied_step : (rows : List Entity) (script rest after out old new : List ℕ) (count start ticks now : ℕ) (question : PointQuestion) (words : List ℕ) → Replied rows script rest out old count start ticks
+    → point_at rest ≡ Some (question, after) → IsAnswer rows question words → new ≡ old ++ reply_text (reply_of words) → RisesUpTo ticks now (weight_of rows question.entity)
+    → Replied rows script after out new (count + 1) start now
+replied_step rows script rest after out old new count start ticks now question words h e a w c =
     let counted = h.counted in
     let all = flat_map reply_text (map reply_of h.answers) in
     record {
       questions = h.questions ++ question ∷ [];
       answers = h.answers ++ words ∷ [];
-      read = read_step IsPointLine (λ k. point_at) point_reader 0 script rest behind h.questions question h.read e;
+      read = read_step IsPointLine (λ k. point_at) point_reader 0 script rest after h.questions question h.read e;
       answered = answers-push rows h.questions h.answers question words h.answered a;
       counted = omega (arith, length-append h.answers (words ∷ []));
       written = w ∙ ap (λ t. t ++ reply_text (reply_of words)) h.written ∙ append_assoc out all (reply_text (reply_of words)) ∙ ap (λ t. out ++ t) (sym (replies-push h.answers words));

@@ -24,7 +24,7 @@ pub few_rows : (bytes : List ℕ) (model : Model) (end : ℕ) → Reads bytes mo
 few_rows bytes model end h =
     omega (arith, entities_counted model.comma model.semi h.cards.params h.pairs model.rows h.entities, few_pairs (length h.cards.params) h.cards.directory h.pairs h.directory)
 
--- the rows from a place on are the row there and those behind it
+-- the rows from a place on are the row there and those after it
 pub tallies_next : (t : Tallies) (rows : List Entity) (at : ℕ) (e : Entity) → slice_get rows at ≡ Some e
     → tallies_from t (drop at rows) ≡ tallies_from (with_row t e.row) (drop (suc at) rows)
 tallies_next t [] at e is = cc

@@ -20,20 +20,20 @@ asked_begins k b bs (q ∷ qs, (first, more, whole, is, h)) = (q, more, ap point
 one_more : (k b : ℕ) (bs rest : List ℕ) (question : PointQuestion) → point_at (b ∷ bs) ≡ Some (question, rest) → AsksFrom (suc k) rest ⊎ (AsksFrom (suc k) rest → ⊥) → AsksFrom k (b ∷ bs) ⊎ (AsksFrom k (b ∷ bs) → ⊥)
 one_more k b bs rest question e (inl (qs, h)) = let (line, is, split) = point_takes k (b ∷ bs) rest question e in inl (question ∷ qs, (line, rest, split, is, h))
 one_more k b bs rest question e (inr never) =
-    inr (λ h. (let (q, more, e', behind) = asked_begins k b bs h in
+    inr (λ h. (let (q, more, e', after) = asked_begins k b bs h in
     let (same, end) = same_pair q question more rest (sym e' ∙ e) in
-    never (subst (λ (t : List ℕ). AsksFrom (suc k) t) end behind)))
+    never (subst (λ (t : List ℕ). AsksFrom (suc k) t) end after)))
 
 asks_within : (n k : ℕ) (bytes : List ℕ) → length bytes ≤ n → AsksFrom k bytes ⊎ (AsksFrom k bytes → ⊥)
 asks_within n k [] few = inl ([], refl)
 asks_within zero k (b ∷ bs) few = absurd (omega arith)
 asks_within (suc n) k (b ∷ bs) few = go (point_at (b ∷ bs)) refl (λ rest shorter. asks_within n (suc k) rest (omega (arith, few, shorter))) where
   go : (o : Option (PointQuestion × List ℕ)) → point_at (b ∷ bs) ≡ o → ((rest : List ℕ) → length rest < length (b ∷ bs) → AsksFrom (suc k) rest ⊎ (AsksFrom (suc k) rest → ⊥)) → AsksFrom k (b ∷ bs) ⊎ (AsksFrom k (b ∷ bs) → ⊥)
-  go None e behind =
+  go None e after =
       inr (λ h. (let (q, more, e', left) = asked_begins k b bs h in
       let bad : ◌≡◌ {A = Option (PointQuestion × List ℕ)} None (Some (q, more)) = sym e ∙ e' in
       cc))
-  go (Some x) e behind = one_more k b bs x.1 x.0 e (behind x.1 (point_shorter (b ∷ bs) x.1 x.0 e))
+  go (Some x) e after = one_more k b bs x.1 x.0 e (after x.1 (point_shorter (b ∷ bs) x.1 x.0 e))
 
 pub asks_or_not : (bytes : List ℕ) → AsksFrom 0 bytes ⊎ (AsksFrom 0 bytes → ⊥)
 asks_or_not bytes = asks_within (length bytes) 0 bytes (omega arith)

@@ -135,7 +135,7 @@ pub file_refused : (r : Result Output AllocError) (bytes : List ℕ) (f : FileFa
 file_refused (Ok out) bytes f h s t = subst (λ (v : Status). IsReplayed bytes v out.text) (sym s) (inl (f, h, t))
 file_refused (Err e) bytes f h s t = tt
 
--- a line behind the file asks no question
+-- a line after the file asks no question
 pub not_built : (r : Result Output AllocError) (bytes : List ℕ) (model : Model) (end : ℕ) → Reads bytes model end → ((questions : List PointQuestion) → Asks bytes end questions → ⊥)
     → IfOk r (λ out. out.status ≡ status.Refused) → IfOk r (λ out. out.text ≡ refused_text fault.NotBuilt) → IfOk r (λ out. IsReplayed bytes out.status out.text)
 not_built (Ok out) bytes model end reads wrong s t =

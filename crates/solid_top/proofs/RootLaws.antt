@@ -81,7 +81,7 @@ named_step rows at i e before now is h k =
 
 -- ---- lines
 
--- the line of the entity at a place, and those behind it
+-- the line of the entity at a place, and those after it
 pub root_next : (rows entities : List Entity) (at : ℕ) (e : Entity) → slice_get entities at ≡ Some e → (place : ℕ) → roots_from rows (place + at) (drop at entities) ≡ root_of rows (2 * (place + at) + 1) e.row ++ roots_from rows (suc (place + at)) (drop (suc at) entities)
 root_next rows [] at e is place = cc
 root_next rows (r ∷ rest) zero e is place =

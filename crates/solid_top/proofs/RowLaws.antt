@@ -17,7 +17,7 @@ item_all P [] at x h e = cc
 item_all P (y ∷ ys) zero x h e = let same : y ≡ x = cc in subst P same h.0
 item_all P (y ∷ ys) (suc at) x h e = item_all P ys at x h.1 e
 
--- what holds of the item at a place and of each behind it
+-- what holds of the item at a place and of each after it
 pub all_from : {X : Type 0} (P : X → Type 0) (xs : List X) (at : ℕ) (x : X) → slice_get xs at ≡ Some x → P x → AllByRecursion P (drop (suc at) xs) → AllByRecursion P (drop at xs)
 all_from P [] zero x e h rest = tt
 all_from P [] (suc at) x e h rest = tt

@@ -46,7 +46,7 @@ module _ (words : List (List ℕ)) (left left' : Option (List ℕ)) (reads reads
   comes_answered command.Replay bytes status.WriteFault text named input h = absurd h
   comes_answered command.Replay bytes status.TooLong text named input h = absurd h
 
-  -- an input that was read is answered, or memory was wanting
+  -- an input that was read is answered, or out of memory
   pub answered : (c : Command) (bytes : List ℕ) (result : Status) → Names words c → IsInput left left' bytes
       → ((result ≡ status.Memory) × Keeps held held') ⊎ ((s : Status) × (text : List ℕ) × Answers c bytes s text × Finishes held held' writes writes' s text result) → EndsAs result
   answered c bytes result named input h =

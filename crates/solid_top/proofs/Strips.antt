@@ -5,7 +5,7 @@ use Rattle.std.specs.List.{prefix_len}
 use Rattle.std.proofs.lemmas.List.{take-append-drop}
 use Rattle.std.proofs.Math.Seq.{drop-cons}
 use Rattle.solid_base.specs.Digits.{is_digit, AreDigits, number_of}
-use Rattle.solid_base.specs.Spelling.{behind_digits}
+use Rattle.solid_base.specs.Spelling.{after_digits}
 use Rattle.solid_base.proofs.Digits.{number_of-append, ten_positive}
 use Rattle.solid_base.proofs.Prefix.{front_upto, rest_upto}
 use Rattle.solid_top.proofs.StepLaws.{same_test, test_same, passed}
@@ -46,29 +46,29 @@ no_prefix b bs h = rw h refl
 pub front_again : (ds rest : List ℕ) (stop : ℕ) → AreDigits ds → is_digit stop ≡ false → front_digits (ds ++ stop ∷ rest) ≡ ds
 front_again ds rest stop h s = front_upto is_digit ds (stop ∷ rest) h (no_prefix stop rest s)
 
-pub behind_again : (ds rest : List ℕ) (stop : ℕ) → AreDigits ds → is_digit stop ≡ false → behind_digits (ds ++ stop ∷ rest) ≡ stop ∷ rest
-behind_again ds rest stop h s = rest_upto is_digit ds (stop ∷ rest) h (no_prefix stop rest s)
+pub after_again : (ds rest : List ℕ) (stop : ℕ) → AreDigits ds → is_digit stop ≡ false → after_digits (ds ++ stop ∷ rest) ≡ stop ∷ rest
+after_again ds rest stop h s = rest_upto is_digit ds (stop ∷ rest) h (no_prefix stop rest s)
 
 -- digits alone
-pub front_all : (ds : List ℕ) → AreDigits ds → (front_digits ds ≡ ds) × (behind_digits ds ≡ [])
+pub front_all : (ds : List ℕ) → AreDigits ds → (front_digits ds ≡ ds) × (after_digits ds ≡ [])
 front_all ds h =
     let e = append-nil ds in (
       subst (λ (t : List ℕ). front_digits t ≡ ds) e (front_upto is_digit ds [] h refl),
-      subst (λ (t : List ℕ). behind_digits t ≡ []) e (rest_upto is_digit ds [] h refl),
+      subst (λ (t : List ℕ). after_digits t ≡ []) e (rest_upto is_digit ds [] h refl),
     )
 
--- a list in front of a place, at it and behind it
+-- a list in front of a place, at it and after it
 split_at : (bytes : List ℕ) (n : ℕ) → n < length bytes → bytes ≡ take n bytes ++ slice_index bytes n ∷ drop (suc n) bytes
 split_at bytes n within = sym (take-append-drop n bytes) ∙ ap (λ l. take n bytes ++ l) (drop-cons bytes n 0 within)
 
 -- digits before a place, and none at it
-pub front_ends : (bytes : List ℕ) (n : ℕ) → n < length bytes → AreDigits (take n bytes) → is_digit (slice_index bytes n) ≡ false → (front_digits bytes ≡ take n bytes) × (behind_digits bytes ≡ drop n bytes)
+pub front_ends : (bytes : List ℕ) (n : ℕ) → n < length bytes → AreDigits (take n bytes) → is_digit (slice_index bytes n) ≡ false → (front_digits bytes ≡ take n bytes) × (after_digits bytes ≡ drop n bytes)
 front_ends bytes n within h stop =
     let e = split_at bytes n within in
     let b = slice_index bytes n in
     let more = drop (suc n) bytes in (
       ap front_digits e ∙ front_again (take n bytes) more b h stop,
-      ap behind_digits e ∙ behind_again (take n bytes) more b h stop ∙ sym (drop-cons bytes n 0 within),
+      ap after_digits e ∙ after_again (take n bytes) more b h stop ∙ sym (drop-cons bytes n 0 within),
     )
 
 front_append : (xs ys : List ℕ) → AreDigits xs → front_digits (xs ++ ys) ≡ xs ++ front_digits ys

@@ -34,7 +34,7 @@ with_row t (row.Tree items matrix) = one_read t
 with_row t (row.Assembly items matrix) = one_read t
 with_row t (row.Instance child matrix) = one_read t
 
--- the rows of entities, from the first to the last, behind those that were counted
+-- the rows of entities, from the first to the last, after those that were counted
 abbrev pub tallies_from : Tallies → List Entity → Tallies
 tallies_from t [] = t
 tallies_from t (e ∷ es) = tallies_from (with_row t e.row) es

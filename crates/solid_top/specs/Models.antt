@@ -10,13 +10,13 @@ use Rattle.solid_top.specs.Points.{IsPointLine}
 abbrev pub Asks : List ℕ → ℕ → List PointQuestion → Type 0
 Asks bytes end questions = Spells IsPointLine 0 (drop end bytes) questions
 
--- the bytes are a file of this model, and lines behind it that ask these questions
+-- the bytes are a file of this model, and lines after it that ask these questions
 pub record IsReplay (bytes : List ℕ) (model : Model) (questions : List PointQuestion) : Type 0 where
   pub end : ℕ
   pub reads : Reads bytes model end
   pub lines : Asks bytes end questions
 
--- the bytes are a file, but what stands behind it are no lines that ask questions
+-- the bytes are a file, but what stands after it are no lines that ask questions
 pub record IsNotBuilt (bytes : List ℕ) : Type 0 where
   pub model : Model
   pub end : ℕ

@@ -14,13 +14,13 @@ pub record IsDelimited (rule : DecimalPoint) (stop : ℕ) (text : List ℕ) (ste
   pub spelt : text ≡ number ++ stop ∷ []
 
 -- three coordinates, of which each of the first two is ended by one byte and the third by another
-pub record IsPosition (rule : DecimalPoint) (between behind : ℕ) (text : List ℕ) (at : Vec3) : Type 0 where
+pub record IsPosition (rule : DecimalPoint) (between after : ℕ) (text : List ℕ) (at : Vec3) : Type 0 where
   pub x_text : List ℕ
   pub y_text : List ℕ
   pub z_text : List ℕ
   pub x : IsDelimited rule between x_text at.x
   pub y : IsDelimited rule between y_text at.y
-  pub z : IsDelimited rule behind z_text at.z
+  pub z : IsDelimited rule after z_text at.z
   pub spelt : text ≡ x_text ++ (y_text ++ z_text)
 
 -- the number of an entity: one to nine digits, at least 1

@@ -1,4 +1,4 @@
--- How a text is read from its front: each step gives what was read and the bytes behind it, or nothing.
+-- How a text is read from its front: each step gives what was read and the bytes after it, or nothing.
 use Rattle.std.specs.Prelude.{◌≡◌, ℕ, List, [], ◌∷◌, cond, ◌==◌, Option, None, Some}
 
 infixl 10 ◌>>=◌
@@ -12,7 +12,7 @@ abbrev pub Gives : {X Y : Type 0} → (X → Y) → Option X → Option Y → Ty
 Gives view None read = read ≡ None
 Gives view (Some x) read = read ≡ Some (view x)
 
--- the bytes behind a text that stands in front
+-- the bytes after a text that stands in front
 unfoldable pub strip : List ℕ → List ℕ → Option (List ℕ)
 strip [] bytes = Some bytes
 strip (t ∷ ts) [] = None

@@ -15,8 +15,8 @@ use Rattle.solid_top.specs.TopFaults.{refused_text}
 abbrev pub IsRefusal : List ℕ → List ℕ → Type 0
 IsRefusal bytes text = (f : FileFault) × Refused bytes f × (text ≡ refused_text (fault.File f))
 
--- Done comes only for a file and lines behind it that ask questions, with the answers to them; Refused only for bytes that are refused
--- as a file, with their first fault, or for a file behind which other lines stand, with NotBuilt; no other status comes
+-- Done comes only for a file and lines after it that ask questions, with the answers to them; Refused only for bytes that are refused
+-- as a file, with their first fault, or for a file after which other lines stand, with NotBuilt; no other status comes
 abbrev pub IsReplayed : List ℕ → Status → List ℕ → Type 0
 IsReplayed bytes status.Done text =
     (model : Model) × (questions : List PointQuestion) × (answers : List (List ℕ)) × IsReplay bytes model questions × AreAnswers model.rows questions answers × (text ≡ replay_text answers)

@@ -44,7 +44,7 @@ Finishes held held' writes writes' s text result =
 abbrev pub Writes : List (List ℕ) → Option (List ℕ) → Option (List ℕ) → Option (List ℕ) → Option (List ℕ) → Status → Type 0
 Writes words left left' held held' s = (text : List ℕ) × Comes words left left' s text × Appends held held' text
 
--- how a run ends: where memory was wanting or a read failed nothing is written; after a failed write a front of the text is; else the
+-- how a run ends: when out of memory or a read failed nothing is written; after a failed write a front of the text is; else the
 -- whole text of the status
 abbrev pub Ends : List (List ℕ) → Option (List ℕ) → Option (List ℕ) → ℕ → ℕ → Option (List ℕ) → Option (List ℕ) → ℕ → ℕ → Status → Type 0
 Ends words left left' reads reads' held held' writes writes' status.Memory = IsCommand words × ((bytes : List ℕ) × Consumes left left' bytes) × Keeps held held'
@@ -68,6 +68,6 @@ pub record GoesWell (words : List (List ℕ)) (reads reads' writes writes' : ℕ
   pub reading : Rose reads reads' → ⊥
   pub writing : Rose writes writes' → ⊥
 
--- the run ended with this status, and its whole text was written; or memory was wanting, and nothing was
+-- the run ended with this status, and its whole text was written; or out of memory, and nothing was
 abbrev pub IsWritten : Option (List ℕ) → Option (List ℕ) → Status → List ℕ → Status → Type 0
 IsWritten held held' s text result = ((result ≡ status.Memory) × Keeps held held') ⊎ ((result ≡ s) × Appends held held' text)

@@ -10,7 +10,7 @@ use Rattle.solid_top.specs.declared.streams.ReadError.TheVariants.{Memory, Fault
 abbrev pub most_bytes : ℕ
 most_bytes = 2 ^ 25
 
--- a reading stopped before the input's end: where memory was wanting, some bytes were taken; after a fault the
+-- a reading stopped before the input's end: when out of memory, some bytes were taken; after a fault the
 -- count of failures rose, and at most as many bytes were taken as may be; where the input is too long, more were
 abbrev pub Stopped : Option (List ℕ) → Option (List ℕ) → ℕ → ℕ → ReadError → Type 0
 Stopped old new before now Memory = (bytes : List ℕ) × Consumes old new bytes

@@ -9,7 +9,7 @@ abbrev pub top_number : TopFault → ℕ
 top_number fault.NotBuilt = 30
 top_number (fault.File f) = files.fault_number f
 
--- neither the fault nor a fault in it is want of memory
+-- neither the fault nor a fault in it is out of memory
 abbrev pub IsOfText : TopFault → Type 0
 IsOfText fault.NotBuilt = Unit {0}
 IsOfText (fault.File f) = files.IsOfText f

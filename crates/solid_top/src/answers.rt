@@ -32,7 +32,7 @@ fn push_verdict(out: &mut Bytes, verdict: &Verdict) -> Result<(), AllocError>
     }
 }
 
-/// Adds a word and a number behind it.
+/// Adds a word and a number after it.
 fn push_number(out: &mut Bytes, word: &[u8], number: u32) -> Result<(), AllocError>
     ensures { OnOk result (out.new ≡ out.old ++ (word.now ++ decimal number)) }
 {
@@ -157,11 +157,11 @@ pub fn push_replies<L: Ledger>(
     let mut count = 0;
     let mut rest = script;
     while !rest.is_empty() {
-        let Some((question, behind)) = point_line(rest) else {
+        let Some((question, after)) = point_line(rest) else {
             return Ok(None);
         };
         push_reply(alloc, out, rows, graph, &question, leaves)?;
-        rest = behind;
+        rest = after;
         count += 1;
     }
     Ok(Some(count))

@@ -56,7 +56,7 @@ fn tally(rows: &Rows) -> Tallies
     tallies
 }
 
-/// Adds a label and a number behind it.
+/// Adds a label and a number after it.
 fn push_count(out: &mut Bytes, label: &[u8], count: u32) -> Result<(), AllocError>
     ensures { OnOk result (out.new ≡ out.old ++ (label.now ++ decimal count)) }
 {
@@ -90,7 +90,7 @@ fn global_words(model: &Model, number: usize) -> &[u8]
     }
 }
 
-/// Adds a label and the global parameter with a number behind it.
+/// Adds a label and the global parameter with a number after it.
 fn push_global(
     out: &mut Bytes,
     label: &[u8],
@@ -134,7 +134,7 @@ fn check_text(alloc: Global, model: &Model) -> Result<Bytes, AllocError>
 /// solid that no entity names. The status is then `Done`.
 ///
 /// Bytes that are no file are `Refused`, and the text is the line of their first fault. AllocError comes
-/// where memory is wanting.
+/// when out of memory.
 pub fn check_run(alloc: Global, bytes: &[u8]) -> Result<Output, AllocError>
     requires { length bytes.now ≤ 2 ^ 25 }
     ensures checked { IfOk result (λ out. IsChecked bytes.now out.status out.text) }

@@ -6,7 +6,7 @@ ghost use Rattle.solid_top.specs.Commands.{IsCommand, Names, word_of};
 pub enum Command {
     /// `check`: reads a file and tells what it holds.
     Check,
-    /// `replay`: reads a file and answers the points behind it.
+    /// `replay`: reads a file and answers the points after it.
     Replay,
 }
 

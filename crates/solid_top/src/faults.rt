@@ -9,7 +9,7 @@ use thiserror::Error;
 /// Why a model is not served.
 #[derive(Clone, Copy, Debug, PartialEq, Eq, Error)]
 pub enum TopFault {
-    /// A row of the model, or a line behind the file, is of a kind that is not served yet.
+    /// A row of the model, or a line after the file, is of a kind that is not served yet.
     #[error("the model holds what is not served yet")]
     NotBuilt,
     /// The bytes are no file that is read.
@@ -28,8 +28,8 @@ impl TopFault {
         }
     }
 
-    /// The printed words of the fault: those of the file's fault, or NotBuilt. AllocError where memory
-    /// is wanting. Want of memory itself is never printed.
+    /// The printed words of the fault: those of the file's fault, or NotBuilt. AllocError when out
+    /// of memory. Out of memory itself is never printed.
     pub fn write_fault(&self, alloc: Global) -> Result<Bytes, AllocError>
         requires { IsOfText self.now }
         ensures { IfOk result (λ words. words ≡ top_words self.now) }
@@ -41,7 +41,7 @@ impl TopFault {
     }
 }
 
-/// Whether a file's fault has words: neither it nor a fault in it is want of memory, whose number is 1.
+/// Whether a file's fault has words: neither it nor a fault in it is out of memory, whose number is 1.
 fn has_words(fault: &FileFault) -> bool
     ensures { IsTrue result ↔ IsOfText (TopFault.File fault.now) }
 {
@@ -51,7 +51,7 @@ fn has_words(fault: &FileFault) -> bool
     }
 }
 
-/// The fault of a file as that of a run. Want of memory is an error of its own.
+/// The fault of a file as that of a run. Out of memory is an error of its own.
 pub fn of_file(fault: FileFault) -> Result<TopFault, AllocError>
     ensures { IfOk result (λ top. (top ≡ TopFault.File fault) × IsOfText top) }
 {

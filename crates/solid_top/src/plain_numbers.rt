@@ -1,7 +1,7 @@
 ghost use Rattle.std.specs.Prelude.{◌≡◌, ◌<◌, ◌≤◌, ◌^◌, IfSome};
 ghost use Rattle.solid_base.specs.Range.{far, IsWithin};
 ghost use Rattle.solid_top.specs.PlainNumbers.{signed};
-ghost use Rattle.solid_top.specs.PlainReading.{step_of, decimals_at, fraction_at, magnitude_at, behind_minus, plain_at};
+ghost use Rattle.solid_top.specs.PlainReading.{step_of, decimals_at, fraction_at, magnitude_at, after_minus, plain_at};
 ghost use Rattle.solid_top.specs.Reading.{Gives};
 
 use crate::scan::digits;
@@ -40,7 +40,7 @@ fn step_of(decimals: usize) -> Option<u64>
     }
 }
 
-/// Decimals in front as steps, and the bytes behind them.
+/// Decimals in front as steps, and the bytes after them.
 fn decimals(bytes: &[u8]) -> Option<(u64, &[u8])>
     ensures value { Gives (λ found. (found.0, found.1.now)) result (decimals_at bytes.now) }
     ensures within { IfSome result (λ found. found.0 < 10 ^ 12) }
@@ -50,19 +50,19 @@ fn decimals(bytes: &[u8]) -> Option<(u64, &[u8])>
     Some((digits.number * step, digits.rest))
 }
 
-/// A point and decimals in front as steps, and the bytes behind them; none are 0 steps.
+/// A point and decimals in front as steps, and the bytes after them; none are 0 steps.
 fn fraction(rule: DecimalPoint, bytes: &[u8]) -> Option<(u64, &[u8])>
     ensures value { Gives (λ found. (found.0, found.1.now)) result (fraction_at rule bytes.now) }
     ensures within { IfSome result (λ found. found.0 < 10 ^ 12) }
 {
     match bytes {
-        [b'.', behind @ ..] => decimals(behind),
+        [b'.', after @ ..] => decimals(after),
         _ if rule == DecimalPoint::Optional => Some((0, bytes)),
         _ => None,
     }
 }
 
-/// The steps of a number without a sign in front, and the bytes behind it.
+/// The steps of a number without a sign in front, and the bytes after it.
 #[tactic(auto, unfolding(crate::specs::PlainReading::magnitude_at))]
 fn magnitude(rule: DecimalPoint, bytes: &[u8]) -> Option<(u64, &[u8])>
     ensures value { Gives (λ found. (found.0, found.1.now)) result (magnitude_at rule bytes.now) }
@@ -91,9 +91,9 @@ fn signed(minus: bool, magnitude: u64) -> i128
     }
 }
 
-/// Whether a minus stands in front, and the bytes behind it.
-fn behind_minus(bytes: &[u8]) -> (bool, &[u8])
-    ensures { (result.0, result.1.now) ≡ behind_minus bytes.now }
+/// Whether a minus stands in front, and the bytes after it.
+fn after_minus(bytes: &[u8]) -> (bool, &[u8])
+    ensures { (result.0, result.1.now) ≡ after_minus bytes.now }
 {
     match bytes {
         [b'-', rest @ ..] => (true, rest),
@@ -101,13 +101,13 @@ fn behind_minus(bytes: &[u8]) -> (bool, &[u8])
     }
 }
 
-/// The steps of a plain number in front, and the bytes behind it.
+/// The steps of a plain number in front, and the bytes after it.
 #[tactic(auto, unfolding(crate::specs::PlainReading::plain_at))]
 pub fn plain(rule: DecimalPoint, bytes: &[u8]) -> Option<(i128, &[u8])>
     ensures value { Gives (λ found. (found.0, found.1.now)) result (plain_at rule bytes.now) }
     ensures within { IfSome result (λ found. IsWithin far found.0) }
 {
-    let (minus, unsigned) = behind_minus(bytes);
+    let (minus, unsigned) = after_minus(bytes);
     let (steps, rest) = magnitude(rule, unsigned)?;
     Some((signed(minus, steps), rest))
 }

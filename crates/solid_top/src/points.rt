@@ -8,7 +8,7 @@ use crate::questions::PointQuestion;
 use crate::scan::{byte, digits, text};
 use solid_base::Vec3;
 
-/// A plain number in front, and the bytes behind the byte that ends it.
+/// A plain number in front, and the bytes after the byte that ends it.
 #[tactic(auto, unfolding(crate::specs::FormReading::delimited_at))]
 pub fn delimited(rule: DecimalPoint, stop: u8, bytes: &[u8]) -> Option<(i128, &[u8])>
     ensures value { Gives (λ found. (found.0, found.1.now)) result (delimited_at rule stop bytes.now) }
@@ -19,19 +19,19 @@ pub fn delimited(rule: DecimalPoint, stop: u8, bytes: &[u8]) -> Option<(i128, &[
     Some((steps, rest))
 }
 
-/// Three coordinates in front, and the bytes behind them.
+/// Three coordinates in front, and the bytes after them.
 #[tactic(auto, unfolding(crate::specs::FormReading::position_at))]
-pub fn position(rule: DecimalPoint, between: u8, behind: u8, bytes: &[u8]) -> Option<(Vec3, &[u8])>
-    ensures value { Gives (λ found. (found.0, found.1.now)) result (position_at rule between behind bytes.now) }
+pub fn position(rule: DecimalPoint, between: u8, after: u8, bytes: &[u8]) -> Option<(Vec3, &[u8])>
+    ensures value { Gives (λ found. (found.0, found.1.now)) result (position_at rule between after bytes.now) }
     ensures within { IfSome result (λ found. IsPointWithin far found.0) }
 {
     let (x, rest) = delimited(rule, between, bytes)?;
     let (y, rest) = delimited(rule, between, rest)?;
-    let (z, rest) = delimited(rule, behind, rest)?;
+    let (z, rest) = delimited(rule, after, rest)?;
     Some((Vec3 { x, y, z }, rest))
 }
 
-/// The number of an entity in front, and the bytes behind it.
+/// The number of an entity in front, and the bytes after it.
 #[tactic(auto, unfolding(crate::specs::FormReading::entity_number_at))]
 fn entity_number(bytes: &[u8]) -> Option<(u32, &[u8])>
     ensures { Gives (λ found. (found.0, found.1.now)) result (entity_number_at bytes.now) }
@@ -47,7 +47,7 @@ fn entity_number(bytes: &[u8]) -> Option<(u32, &[u8])>
     }
 }
 
-/// The line of a point in front, and the bytes behind it.
+/// The line of a point in front, and the bytes after it.
 #[tactic(auto, unfolding(crate::specs::FormReading::point_at))]
 pub fn point_line(bytes: &[u8]) -> Option<(PointQuestion, &[u8])>
     ensures value { Gives (λ found. (found.0, found.1.now)) result (point_at bytes.now) }

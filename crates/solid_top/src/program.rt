@@ -96,7 +96,7 @@ fn run_words<S: Source, K: Sink>(
 ///
 /// The status is `Usage` where the words are no command, and then nothing is read; `ReadFault` or
 /// `WriteFault` only where a call on the source or the sink failed; `TooLong` where more than 2^25 bytes
-/// were read; `Memory` where memory was wanting; else that of the answer, `Done` or `Refused`.
+/// were read; `Memory` when out of memory; else that of the answer, `Done` or `Refused`.
 pub fn run<R: Threads + Wait + Sync, S: Source, K: Sink, G: Gate>(
     _rt: &R,
     alloc: Global,

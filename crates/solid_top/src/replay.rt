@@ -134,9 +134,9 @@ fn replay_bytes<L: Ledger>(
     }
 }
 
-/// Answers the points behind a file: a line of session 1 for each. Bytes that are no file are refused
-/// with their first fault, and a file behind which stand lines that ask no points with NotBuilt. A point
-/// counts as at most so many evaluations as its entity weighs. Want of memory is an error.
+/// Answers the points after a file: a line of session 1 for each. Bytes that are no file are refused
+/// with their first fault, and a file after which stand lines that ask no points with NotBuilt. A point
+/// counts as at most so many evaluations as its entity weighs. Out of memory is an error.
 pub fn replay_run<L: Ledger>(
     alloc: Global,
     bytes: &[u8],

@@ -262,7 +262,7 @@ fn points_on_trees_are_answered(rt: HostRuntime) -> Result<(), AllocError> {
 #[test]
 fn points_on_moved_solids_are_answered(rt: HostRuntime) -> Result<(), AllocError> {
     let alloc = rt.alloc();
-    // A ball, a matrix and the one behind it, and two instances, of which the second moves the first.
+    // A ball, a matrix and the one after it, and two instances, of which the second moves the first.
     let records = [
         (158, 0, BALL),
         (124, 5, ALONG_X),
@@ -349,7 +349,7 @@ fn other_inputs_are_refused(rt: HostRuntime) -> Result<(), AllocError> {
     let alloc = rt.alloc();
     let point = "@1 point 1 0 0 0\n";
     let cases: [(&[Record], &str, &str); 11] = [
-        // What stands behind a file is no line that asks a question.
+        // What stands after a file is no line that asks a question.
         (&[(158, 0, BALL)], "@1 point 0 0 0 0\n", "NotBuilt"),
         (&[(158, 0, BALL)], "@1 point 1 0 0 0", "NotBuilt"),
         (&[(110, 0, LINE)], "@1 point 1 0 0 0\n@1\n", "NotBuilt"),

@@ -1,10 +1,10 @@
 ghost use Rattle.std.specs.Prelude.{◌≡◌, ◌≤◌, ◌<◌, ◌^◌, [], ◌∷◌, length, IfSome, IfNone};
 ghost use Rattle.solid_base.specs.Digits.{number_of};
-ghost use Rattle.solid_base.specs.Spelling.{behind_digits};
+ghost use Rattle.solid_base.specs.Spelling.{after_digits};
 ghost use Rattle.solid_top.specs.Reading.{Gives, strip};
 ghost use Rattle.solid_top.specs.PlainReading.{front_digits};
 
-/// The digits in front of a text: the number that they spell, how many they are, and the bytes behind
+/// The digits in front of a text: the number that they spell, how many they are, and the bytes after
 /// them.
 #[derive(Clone, Copy, Debug)]
 pub struct Front<'a> {
@@ -16,7 +16,7 @@ pub struct Front<'a> {
 /// The least number that is told no more: one of thirteen digits.
 const PAST: u64 = 1_000_000_000_000;
 
-/// The bytes behind a text that stands in front.
+/// The bytes after a text that stands in front.
 pub fn text<'a>(expected: &[u8], bytes: &'a [u8]) -> Option<&'a [u8]>
     ensures { Gives (λ rest. rest.now) result (strip expected.now bytes.now) }
 {
@@ -27,7 +27,7 @@ pub fn text<'a>(expected: &[u8], bytes: &'a [u8]) -> Option<&'a [u8]>
     }
 }
 
-/// The bytes behind a byte that stands in front.
+/// The bytes after a byte that stands in front.
 #[tactic(auto, unfolding(crate::specs::Reading::strip))]
 pub fn byte(expected: u8, bytes: &[u8]) -> Option<&[u8]>
     ensures { Gives (λ rest. rest.now) result (strip (expected ∷ []) bytes.now) }
@@ -42,7 +42,7 @@ pub fn byte(expected: u8, bytes: &[u8]) -> Option<&[u8]>
 pub fn digits(bytes: &[u8]) -> Option<Front<'_>>
     ensures number { IfSome result (λ found. (found.number ≡ number_of (front_digits bytes.now)) × (found.number < 10 ^ 12)) }
     ensures count { IfSome result (λ found. found.count ≡ length (front_digits bytes.now)) }
-    ensures rest { IfSome result (λ found. found.rest.now ≡ behind_digits bytes.now) }
+    ensures rest { IfSome result (λ found. found.rest.now ≡ after_digits bytes.now) }
     ensures none { IfNone result (10 ^ 12 ≤ number_of (front_digits bytes.now)) }
 {
     let mut number: u64 = 0;

@@ -10,7 +10,7 @@ pub enum Status {
     Usage,
     /// The model was refused.
     Refused,
-    /// Memory was wanting; nothing was written.
+    /// Out of memory; nothing was written.
     Memory,
     /// A read failed; nothing was written.
     ReadFault,

@@ -16,7 +16,7 @@ const PIECE_BYTES: usize = 1 << 16;
 /// Why the input was not read to its end.
 #[derive(Clone, Copy, Debug, PartialEq, Eq)]
 pub enum ReadError {
-    /// Memory was wanting.
+    /// Out of memory.
     Memory,
     /// A read failed.
     Fault,

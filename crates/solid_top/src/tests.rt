@@ -278,7 +278,7 @@ fn expect_run(rt: &impl Abort, ended: &(Status, Bytes), status: Status, written:
 /// A call that is never reached.
 const NEVER: u32 = u32::MAX;
 
-/// The commands, each with what it answers to a sphere with one point behind it, and the first ten bytes
+/// The commands, each with what it answers to a sphere with one point after it, and the first ten bytes
 /// of that.
 const COMMANDS: [(&str, &str, &str); 2] = [
     (
@@ -289,7 +289,7 @@ const COMMANDS: [(&str, &str, &str); 2] = [
     ("replay", "LOG 0\n@1 1\n0 INSIDE\nEND\n", "LOG 0\n@1 1"),
 ];
 
-/// A sphere with a point behind it.
+/// A sphere with a point after it.
 fn sphere_and_point(alloc: Global) -> Result<Bytes, AllocError> {
     let mut input = text(alloc, &SPHERE)?;
     input.extend_from_slice(b"@1 point 1 0 0 0\n")?;

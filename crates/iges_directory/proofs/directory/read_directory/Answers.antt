@@ -1,7 +1,7 @@
 use Rattle.std.proofs.Common.{arith, ◌∷◌, [], length-append}
 use Rattle.std.proofs.lemmas.Result.{err_from_is_err_and}
 use Rattle.iges_directory.proofs.DirectoryForms.{directory_takes}
-use Rattle.iges_directory.proofs.PairSteps.{is_odd, too_many, starts, two_at, none_behind, eighty_first, text_more, goes_on, stops, ends}
+use Rattle.iges_directory.proofs.PairSteps.{is_odd, too_many, starts, two_at, none_after, eighty_first, text_more, goes_on, stops, ends}
 use Rattle.iges_directory.proofs.directory.read_directory.Goals as goal
 
 pub returns-then-len-ne0-clause-first_fault : goal.returns-then-len-ne0-clause-first_fault
@@ -66,10 +66,10 @@ loop-at-preserved c =
 
 pub returns-clause-found : goal.returns-clause-found
 returns-clause-found c =
-    let behind = none_behind c.args.lines.now c.loop-at.at (omega (arith, c.loop-at-test.false, c.len-in-loop-at.ensures)) in
-    ends c.args.params c.loop-at.pairs.items _ _ behind c.loop-at.invariant.gives
+    let after = none_after c.args.lines.now c.loop-at.at (omega (arith, c.loop-at-test.false, c.len-in-loop-at.ensures)) in
+    ends c.args.params c.loop-at.pairs.items _ _ after c.loop-at.invariant.gives
 
 pub returns-clause-directory : goal.returns-clause-directory
 returns-clause-directory c =
-    let behind = none_behind c.args.lines.now c.loop-at.at (omega (arith, c.loop-at-test.false, c.len-in-loop-at.ensures)) in
-    directory_takes c.args.params c.args.lines.now c.loop-at.pairs.items (ends c.args.params c.loop-at.pairs.items _ _ behind c.loop-at.invariant.gives)
+    let after = none_after c.args.lines.now c.loop-at.at (omega (arith, c.loop-at-test.false, c.len-in-loop-at.ensures)) in
+    directory_takes c.args.params c.args.lines.now c.loop-at.pairs.items (ends c.args.params c.loop-at.pairs.items _ _ after c.loop-at.invariant.gives)

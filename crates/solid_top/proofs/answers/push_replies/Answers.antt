@@ -19,18 +19,18 @@ returns-in_default-clause-none g c =
     c.in_default.ensures.value
 
 pub loop-rest-smaller : goal.loop-rest-smaller
-loop-rest-smaller g c = point_shorter c.loop-rest.rest.now c.in-Some.behind.now c.in-Some.question c.in-Some.ensures.value
+loop-rest-smaller g c = point_shorter c.loop-rest.rest.now c.in-Some.after.now c.in-Some.question c.in-Some.ensures.value
 
 pub loop-rest-preserved : goal.loop-rest-preserved
 loop-rest-preserved g c =
-    let shorter = point_shorter c.loop-rest.rest.now c.in-Some.behind.now c.in-Some.question c.in-Some.ensures.value in
+    let shorter = point_shorter c.loop-rest.rest.now c.in-Some.after.now c.in-Some.question c.in-Some.ensures.value in
     let start = g.L.Ledger.count c.args.leaves.now in
     let before = g.L.Ledger.count c.loop-rest.leaves in
-    let behind = g.L.Ledger.count c.push_reply.new.leaves in
+    let after = g.L.Ledger.count c.push_reply.new.leaves in
     let (words, is, written) = c.in_ok-push_reply.ensures.reply in
     record {
-      replied = replied_step c.args.rows.now c.args.script.now c.loop-rest.rest.now c.in-Some.behind.now c.args.out.now c.loop-rest.out c.push_reply.new.out c.loop-rest.count start before behind c.in-Some.question words c.loop-rest.invariant.replied
+      replied = replied_step c.args.rows.now c.args.script.now c.loop-rest.rest.now c.in-Some.after.now c.args.out.now c.loop-rest.out c.push_reply.new.out c.loop-rest.count start before after c.in-Some.question words c.loop-rest.invariant.replied
           c.in-Some.ensures.value is written c.in_ok-push_reply.ensures.ledger;
-      later = later_joined start before behind c.loop-rest.invariant.later (rises_later before behind _ c.in_ok-push_reply.ensures.ledger);
+      later = later_joined start before after c.loop-rest.invariant.later (rises_later before after _ c.in_ok-push_reply.ensures.ledger);
       within = omega (arith, shorter, c.loop-rest.invariant.within);
     }
