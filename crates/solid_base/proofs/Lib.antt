@@ -8,3 +8,4 @@ pub mod Spellings
 pub mod PostOrders
 pub mod DecimalTexts
 pub mod SeriesLaws
+pub mod Counts

@@ -2,9 +2,11 @@
 use Rattle.std.specs.Prelude.{◌≡◌, ℕ, zero, suc, ◌≤◌, ◌^◌, List, [], ◌∷◌, map, max, sum_by}
 use Rattle.std.specs.List.{AllByRecursion}
 use Rattle.solid_base.specs.declared.entities.Entity.{Entity}
+use Rattle.solid_base.specs.declared.references.Reference.{Reference}
+use Rattle.solid_base.specs.declared.references.Reference.TheVariants as reference
 use Rattle.solid_base.specs.declared.solids.Row.{Row}
 use Rattle.solid_base.specs.declared.solids.Row.TheVariants as row
-use Rattle.solid_base.specs.References.{Reference, to_matrix, to_solid, target, operands_of, items_of, references_of, references, row_at, Refers, Reaches}
+use Rattle.solid_base.specs.References.{target, operands_of, items_of, references_of, references, row_at, Refers, Reaches}
 
 -- ---- single references
 
@@ -24,8 +26,8 @@ IsMatrix (row.Instance child matrix) = ⊥
 
 -- a matrix is wanted and another entity stands there, or the other way round
 abbrev pub IsMisdirected : List Entity → Reference → Type 0
-IsMisdirected rows (to_matrix number) = ¬ IsMatrix (row_at rows number)
-IsMisdirected rows (to_solid number) = IsMatrix (row_at rows number)
+IsMisdirected rows (reference.Matrix number) = ¬ IsMatrix (row_at rows number)
+IsMisdirected rows (reference.Solid number) = IsMatrix (row_at rows number)
 
 -- ---- cycles
 

@@ -8,3 +8,8 @@ pub mod Ranges
 pub mod References
 pub mod Graph
 pub mod Stack
+pub mod Ledgers
+pub mod Columns
+pub mod Texts
+pub mod Outcomes
+pub mod Classes

@@ -1,6 +1,9 @@
 -- The entities that an entity names, in the order in which its directory entry and its record name them.
-use Rattle.std.specs.Prelude.{◌==◌, ℕ, zero, suc, ◌/◌, ◌%◌, List, [], ◌∷◌, ◌++◌, map, cond, slice_get, Option, None, Some, Contains}
+use Rattle.std.specs.Prelude.{◌≡◌, ◌==◌, ◌<◌, ℕ, zero, suc, ◌/◌, ◌%◌, length, List, [], ◌∷◌, ◌++◌, map, cond, slice_get, Option, None, Some, Contains}
+use Rattle.std.specs.Option.{option_map}
 use Rattle.solid_base.specs.declared.entities.Entity.{Entity}
+use Rattle.solid_base.specs.declared.references.Reference.{Reference}
+use Rattle.solid_base.specs.declared.references.Reference.TheVariants as reference
 use Rattle.solid_base.specs.declared.solids.Item.{Item}
 use Rattle.solid_base.specs.declared.solids.Item.TheVariants as item
 use Rattle.solid_base.specs.declared.solids.Placed.{Placed}
@@ -13,6 +16,14 @@ use Rattle.solid_base.specs.declared.solids.Row.TheVariants as row
 abbrev pub at_number : {X : Type 0} → List X → ℕ → Option X
 at_number entities number = cond (number % 2 == 1) (slice_get entities (number / 2)) None
 
+-- some entity has the number
+abbrev pub HasNumber : {X : Type 0} → List X → ℕ → Type 0
+HasNumber entities number = (number % 2 ≡ 1) × (number / 2 < length entities)
+
+-- the row with a number, where some entity has it
+abbrev pub row_of : List Entity → ℕ → Option Row
+row_of entities number = option_map (λ entity. entity.row) (at_number entities number)
+
 -- the row of an entity, or a null row where there is no entity
 abbrev pub row_or_null : Option Entity → Row
 row_or_null None = row.Null
@@ -24,25 +35,20 @@ row_at entities number = row_or_null (at_number entities number)
 
 -- ---- references
 
--- solidd's own: a reference is to a matrix, which moves what names it, or to a solid, of which what names it is made
-pub data Reference : Type 0 where
-  to_matrix : ℕ → Reference
-  to_solid : ℕ → Reference
-
--- the number that a reference names
+-- the number of the entity that a reference names
 abbrev pub target : Reference → ℕ
-target (to_matrix number) = number
-target (to_solid number) = number
+target (reference.Matrix number) = number
+target (reference.Solid number) = number
 
 -- IGES 5.3, 2.2.4.4.7: a directory entry names a matrix, or none by 0
 abbrev pub matrix_named : ℕ → List Reference
 matrix_named zero = []
-matrix_named (suc n) = to_matrix (suc n) ∷ []
+matrix_named (suc n) = reference.Matrix (suc n) ∷ []
 
 -- IGES 5.3, type 180: the operands of a tree
 abbrev pub operands_of : List Item → List Reference
 operands_of [] = []
-operands_of (item.Operand entity ∷ items) = to_solid entity ∷ operands_of items
+operands_of (item.Operand entity ∷ items) = reference.Solid entity ∷ operands_of items
 operands_of (item.Join ∷ items) = operands_of items
 operands_of (item.Meet ∷ items) = operands_of items
 operands_of (item.Less ∷ items) = operands_of items
@@ -50,7 +56,7 @@ operands_of (item.Less ∷ items) = operands_of items
 -- IGES 5.3, type 184: the items of an assembly
 abbrev pub items_of : List Placed → List Reference
 items_of [] = []
-items_of (p ∷ items) = to_solid p.item ∷ items_of items
+items_of (p ∷ items) = reference.Solid p.item ∷ items_of items
 
 -- IGES 5.3, type 184: the matrices that place the items, where there are some
 abbrev pub matrices_of : List Placed → List Reference
@@ -67,7 +73,7 @@ references_of (row.Prim p matrix) = matrix_named matrix
 references_of (row.Tree items matrix) = matrix_named matrix ++ operands_of items
 references_of (row.Assembly items matrix) = matrix_named matrix ++ (items_of items ++ matrices_of items)
 -- IGES 5.3, type 430: an instance names one solid
-references_of (row.Instance child matrix) = matrix_named matrix ++ to_solid child ∷ []
+references_of (row.Instance child matrix) = matrix_named matrix ++ reference.Solid child ∷ []
 
 -- the numbers that a row names, in order
 abbrev pub references : Row → List ℕ

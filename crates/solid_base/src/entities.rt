@@ -1,6 +1,10 @@
+ghost use Rattle.std.specs.Prelude.{◌≡◌, IfOk};
+ghost use Rattle.solid_base.specs.Texts.{blank_attributes};
+
 use crate::lists::{Bytes, Lines, List};
 use crate::rows::Rows;
 use crate::solids::Row;
+use std::alloc::{AllocError, Global};
 
 /// A field of a record: nothing, or a number or text as it is spelt. Of a text, the content alone.
 #[derive(Debug, Drop, Clone, PartialEq, Eq)]
@@ -42,4 +46,29 @@ pub struct RowText {
     pub form: u32,
     pub matrix: u32,
     pub text: Bytes,
+}
+
+/// The 96 bytes of directory fields of an entity that has none of its own: blanks, and zeros in the eight
+/// of field 9. AllocError when out of memory.
+pub fn blank_attributes(alloc: Global) -> Result<Bytes, AllocError>
+    ensures { IfOk result (λ attrs. attrs ≡ blank_attributes) }
+{
+    let mut attrs = Vec::with_capacity(alloc, 96)?;
+    attrs.resize(40, b' ')?;
+    attrs.resize(48, b'0')?;
+    attrs.resize(96, b' ')?;
+    Ok(Bytes::from_vec(attrs))
+}
+
+#[cfg(test)]
+mod tests {
+    use super::*;
+
+    #[test]
+    fn writes_blank_attributes(rt: HostRuntime) -> Result<(), AllocError> {
+        let attrs = blank_attributes(rt.alloc())?;
+        assert_eq!(rt; attrs.len(), 96);
+        assert_eq!(rt; &attrs.as_slice()[38..50], b"  00000000  ".as_slice());
+        Ok(())
+    }
 }

@@ -1,4 +1,5 @@
-ghost use Rattle.std.specs.Prelude.{◌≡◌, ℕ, ◌+◌, ◌-◌, ◌^◌, min};
+ghost use Rattle.std.specs.Prelude.{◌≡◌, ℕ, ◌+◌, ◌≤◌, min};
+ghost use Rattle.solid_base.specs.Ledgers.{most_count, counted};
 
 /// Counts the evaluations of primitives, up to the greatest `u64`.
 pub trait Ledger {
@@ -6,7 +7,10 @@ pub trait Ledger {
 
     /// One evaluation more. A count at the greatest `u64` stands still.
     fn tick(&mut self)
-        ensures { count self.new ≡ min (count self.old + 1) u64.MAX };
+        ensures { count self.new ≡ counted (count self.old) 1 };
+
+    /// No count is above the greatest `u64`.
+    ghost bounded: { (ledger : Self) → count ledger ≤ most_count };
 }
 
 /// A ledger that tells its count.
@@ -20,7 +24,11 @@ pub struct Tally {
 pub struct NoTally;
 
 impl Ledger for Tally {
-    ghost count = { λ t. t.count };
+    ghost use Rattle.solid_base.specs.Ledgers.{within_most};
+
+    ghost count = { λ t. min t.count most_count };
+
+    ghost bounded = { λ t. within_most t.count };
 
     fn tick(&mut self) {
         self.count = self.count.saturating_add(1);
@@ -28,7 +36,27 @@ impl Ledger for Tally {
 }
 
 impl Ledger for NoTally {
-    ghost count = { λ _. 2 ^ 64 - 1 };
+    ghost use Rattle.solid_base.specs.Ledgers.{within_most};
+
+    ghost count = { λ _. most_count };
+
+    ghost bounded = { λ _. within_most most_count };
 
     fn tick(&mut self) {}
+}
+
+#[cfg(test)]
+mod tests {
+    use super::*;
+
+    #[test]
+    fn counts_to_the_greatest(rt: HostRuntime) {
+        let mut tally = Tally {
+            count: u64::MAX - 1,
+        };
+        tally.tick();
+        assert_eq!(rt; tally.count, u64::MAX);
+        tally.tick();
+        assert_eq!(rt; tally.count, u64::MAX);
+    }
 }

@@ -1,74 +1,109 @@
 ghost use Rattle.std.specs.Prelude.{◌≡◌, ◌++◌, map, IfOk, OnOk};
-ghost use Rattle.solid_base.specs.References.{target, matrix_named, operands_of, items_of, matrices_of, references};
+ghost use Rattle.solid_base.specs.References.{target, matrix_named, operands_of, items_of, matrices_of, references_of, references};
 
-use crate::lists::Numbers;
+use crate::lists::{List, Numbers};
 use crate::solids::{Item, Placed, Row};
 use std::alloc::{AllocError, Global};
 
-/// Adds the number of a matrix, where it isn't 0.
-fn push_matrix(numbers: &mut Numbers, matrix: u32) -> Result<(), AllocError>
-    ensures { OnOk result (numbers.new ≡ numbers.old ++ map target (matrix_named matrix)) }
+/// A reference of a row, by the number of the entity that it names: to a matrix, which moves what names
+/// it, or to a solid, of which what names it is made.
+#[derive(Clone, Copy, Debug, PartialEq, Eq)]
+pub enum Reference {
+    Matrix(u32),
+    Solid(u32),
+}
+
+impl Reference {
+    /// The number of the entity that it names.
+    pub fn number(self) -> u32
+        ensures { result ≡ target self }
+    {
+        match self {
+            Reference::Matrix(number) | Reference::Solid(number) => number,
+        }
+    }
+}
+
+/// Adds a reference to a matrix, where its number isn't 0.
+fn push_matrix(references: &mut List<Reference>, matrix: u32) -> Result<(), AllocError>
+    ensures { OnOk result (references.new ≡ references.old ++ matrix_named matrix) }
 {
     if matrix != 0 {
-        numbers.push(matrix)?;
+        references.push(Reference::Matrix(matrix))?;
     }
     Ok(())
 }
 
-fn push_operands(numbers: &mut Numbers, items: &[Item]) -> Result<(), AllocError>
-    ensures { OnOk result (numbers.new ≡ numbers.old ++ map target (operands_of items.now)) }
+fn push_operands(references: &mut List<Reference>, items: &[Item]) -> Result<(), AllocError>
+    ensures { OnOk result (references.new ≡ references.old ++ operands_of items.now) }
 {
     for item in items {
         if let Item::Operand(entity) = item {
-            numbers.push(*entity)?;
+            references.push(Reference::Solid(*entity))?;
         }
     }
     Ok(())
 }
 
-fn push_items(numbers: &mut Numbers, items: &[Placed]) -> Result<(), AllocError>
-    ensures { OnOk result (numbers.new ≡ numbers.old ++ map target (items_of items.now)) }
+fn push_items(references: &mut List<Reference>, items: &[Placed]) -> Result<(), AllocError>
+    ensures { OnOk result (references.new ≡ references.old ++ items_of items.now) }
 {
     for placed in items {
-        numbers.push(placed.item)?;
+        references.push(Reference::Solid(placed.item))?;
     }
     Ok(())
 }
 
-fn push_matrices(numbers: &mut Numbers, items: &[Placed]) -> Result<(), AllocError>
-    ensures { OnOk result (numbers.new ≡ numbers.old ++ map target (matrices_of items.now)) }
+fn push_matrices(references: &mut List<Reference>, items: &[Placed]) -> Result<(), AllocError>
+    ensures { OnOk result (references.new ≡ references.old ++ matrices_of items.now) }
 {
     for placed in items {
-        push_matrix(numbers, placed.matrix)?;
+        push_matrix(references, placed.matrix)?;
     }
     Ok(())
 }
 
-/// The numbers that a row names, in order: its own matrix where it isn't 0, of a matrix the one that is
-/// applied after it; then the operands of a tree, or the items of an assembly and after them their
-/// matrices that aren't 0, or the solid of an instance. AllocError when out of memory.
+/// The references in the list and after them those of a row, in order: its own matrix where its number
+/// isn't 0, of a matrix the one that is applied after it; then the operands of a tree, or the items of an
+/// assembly and after them their matrices whose numbers aren't 0, or the solid of an instance. What isn't
+/// read has none. AllocError when out of memory; the list is then dropped.
 #[tactic(auto, unfolding(crate::specs::References::references_of))]
+pub fn with_references(
+    references: List<Reference>,
+    row: &Row,
+) -> Result<List<Reference>, AllocError>
+    ensures { IfOk result (λ all. all ≡ references ++ references_of row.now) }
+{
+    let mut all = references;
+    match row {
+        Row::Null | Row::Opaque { .. } => {}
+        Row::Matrix { next, .. } => push_matrix(&mut all, *next)?,
+        Row::Prim { matrix, .. } => push_matrix(&mut all, *matrix)?,
+        Row::Tree { items, matrix } => {
+            push_matrix(&mut all, *matrix)?;
+            push_operands(&mut all, items.as_slice())?;
+        }
+        Row::Assembly { items, matrix } => {
+            push_matrix(&mut all, *matrix)?;
+            push_items(&mut all, items.as_slice())?;
+            push_matrices(&mut all, items.as_slice())?;
+        }
+        Row::Instance { child, matrix } => {
+            push_matrix(&mut all, *matrix)?;
+            all.push(Reference::Solid(*child))?;
+        }
+    }
+    Ok(all)
+}
+
+/// The numbers that a row names, in the order of its references. AllocError when out of memory.
 pub fn reference_list(alloc: Global, row: &Row) -> Result<Numbers, AllocError>
     ensures { IfOk result (λ numbers. numbers ≡ references row.now) }
 {
+    let all = with_references(List::new(alloc), row)?;
     let mut numbers = Numbers::new(alloc);
-    match row {
-        Row::Null | Row::Opaque { .. } => {}
-        Row::Matrix { next, .. } => push_matrix(&mut numbers, *next)?,
-        Row::Prim { matrix, .. } => push_matrix(&mut numbers, *matrix)?,
-        Row::Tree { items, matrix } => {
-            push_matrix(&mut numbers, *matrix)?;
-            push_operands(&mut numbers, items.as_slice())?;
-        }
-        Row::Assembly { items, matrix } => {
-            push_matrix(&mut numbers, *matrix)?;
-            push_items(&mut numbers, items.as_slice())?;
-            push_matrices(&mut numbers, items.as_slice())?;
-        }
-        Row::Instance { child, matrix } => {
-            push_matrix(&mut numbers, *matrix)?;
-            numbers.push(*child)?;
-        }
+    for reference in all.as_slice() {
+        numbers.push(reference.number())?;
     }
     Ok(numbers)
 }

@@ -1,7 +1,7 @@
 ghost use Rattle.std.specs.Prelude.{◌≡◌, ◌<◌, [], ◌∷◌, ◌++◌, length, map, slice_get, OnOk, OnErr, IfOk, MatchOption};
 ghost use Rattle.std.specs.Arc.{arc_value};
 ghost use Rattle.solid_base.specs.declared.solids.Row.TheVariants as row;
-ghost use Rattle.solid_base.specs.References.{row_at};
+ghost use Rattle.solid_base.specs.References.{at_number, row_of, row_at};
 
 use crate::entities::Entity;
 use crate::solids::Row;
@@ -64,17 +64,28 @@ impl Rows {
         &self.items[at]
     }
 
-    /// The row of the entity with a number. The entity at place `i` has the number `2 i + 1`; None where
-    /// no entity has the number.
-    #[tactic(auto, unfolding(crate::specs::References::row_at))]
-    pub fn row(&self, number: u32) -> Option<&Row>
-        ensures { MatchOption result (row_at self.now number ≡ row.Null) (λ r. row_at self.now number ≡ r.now) }
+    /// The entity with a number. The entity at place `i` has the number `2 i + 1`; None exactly where no
+    /// entity has the number.
+    pub fn entity(&self, number: u32) -> Option<&Entity>
+        ensures { MatchOption result (at_number self.now number ≡ None) (λ e. at_number self.now number ≡ Some e.now) }
     {
         let place = (number / 2) as usize;
         if number % 2 == 1 && place < self.len() {
-            Some(&self.get(place).row)
+            Some(self.get(place))
         } else {
             None
+        }
+    }
+
+    /// The row of the entity with a number, a Null row too; None exactly where no entity has the number.
+    #[tactic(auto, unfolding(crate::specs::References::row_at))]
+    pub fn row(&self, number: u32) -> Option<&Row>
+        ensures row { MatchOption result (row_of self.now number ≡ None) (λ r. row_of self.now number ≡ Some r.now) }
+        ensures or_null { MatchOption result (row_at self.now number ≡ row.Null) (λ r. row_at self.now number ≡ r.now) }
+    {
+        match self.entity(number) {
+            Some(entity) => Some(&entity.row),
+            None => None,
         }
     }
 
@@ -104,6 +115,14 @@ mod tests {
     use super::*;
     use crate::lists::{Bytes, List};
 
+    fn null_entity(alloc: Global) -> Entity {
+        Entity {
+            row: Row::Null,
+            attrs: Bytes::new(alloc),
+            tail: List::new(alloc),
+        }
+    }
+
     #[test]
     fn shares_the_same_entities_in_order(rt: HostRuntime) -> Result<(), AllocError> {
         let alloc = rt.alloc();
@@ -122,8 +141,10 @@ mod tests {
             };
             rows.push(Arc::new(alloc, entity)?)?;
         }
+        rows.push(Arc::new(alloc, null_entity(alloc))?)?;
         assert!(rt; matches!(rows.row(5), Some(Row::Opaque { kind: 180, .. })));
-        for number in [0, 2, 4, 6, 7] {
+        assert!(rt; matches!(rows.row(7), Some(Row::Null)));
+        for number in [0, 2, 4, 6, 8, 9] {
             assert!(rt; rows.row(number).is_none(), "number {number}");
         }
         let shared = rows.share(alloc)?;

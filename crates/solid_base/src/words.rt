@@ -1,4 +1,4 @@
-ghost use Rattle.std.specs.Prelude.{◌≡◌, ◌++◌, decimal, IfOk, OnOk};
+ghost use Rattle.std.specs.Prelude.{◌≡◌, ◌++◌, decimal, IfOk, OnOk, OnErr};
 
 use crate::lists::Bytes;
 use itoa::Buffer;
@@ -13,9 +13,10 @@ pub fn word(alloc: Global, text: &[u8]) -> Result<Bytes, AllocError>
     Ok(words)
 }
 
-/// Writes a number after a text, in decimal.
+/// Writes a number after a text, in decimal. When out of memory the text is unchanged.
 pub fn push_decimal(words: &mut Bytes, number: u32) -> Result<(), AllocError>
-    ensures { OnOk result (words.new ≡ words.old ++ decimal number) }
+    ensures ok { OnOk result (words.new ≡ words.old ++ decimal number) }
+    ensures err { OnErr result (words.new ≡ words.old) }
 {
     let mut buffer = Buffer::new();
     words.extend_from_slice(buffer.format(number).as_bytes())

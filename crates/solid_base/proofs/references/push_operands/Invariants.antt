@@ -1,6 +1,6 @@
-use Rattle.std.proofs.Common.{◌≡◌, ◌++◌, map, drop}
-use Rattle.solid_base.specs.References.{target, operands_of}
+use Rattle.std.proofs.Common.{◌≡◌, ◌++◌, drop}
+use Rattle.solid_base.specs.References.{operands_of}
 use Rattle.solid_base.proofs.references.push_operands.Given as goal
 
 abbrev pub invariant-loop-item : goal.invariant-loop-item
-invariant-loop-item l = l.numbers ++ map target (operands_of (drop l.item-index l.items)) ≡ l.fn.numbers ++ map target (operands_of l.items)
+invariant-loop-item l = l.references ++ operands_of (drop l.item-index l.items) ≡ l.fn.references ++ operands_of l.items
