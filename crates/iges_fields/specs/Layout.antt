@@ -2,6 +2,7 @@
 use Rattle.std.specs.Prelude.{◌≡◌, ℕ, ◌+◌, ◌-◌, ◌%◌, ◌<◌, ◌^◌, List, [], ◌∷◌, ◌++◌, Bool, true, false, cond, ◌||◌, ◌==◌, nat_le, length, replicate, decimal, Ok}
 use Rattle.std.specs.List.{AllByRecursion, concat}
 use Rattle.solid_base.specs.Spelling.{IsWhole, IsReal}
+use Rattle.solid_base.specs.Texts.{IsOneLine}
 use Rattle.solid_base.specs.declared.entities.Token.{Token}
 use Rattle.solid_base.specs.declared.entities.Token.TheVariants as token
 use Rattle.iges_fields.specs.declared.kinds.FieldKind.{FieldKind}
@@ -39,6 +40,10 @@ IsSpelt (token.Text text) = Unit {0}
 
 abbrev pub AreSpelt : List Token → Type 0
 AreSpelt tokens = AllByRecursion IsSpelt tokens
+
+-- the bytes of each token's content are of one line: none is a line feed
+abbrev pub AreOneLine : List Token → Type 0
+AreOneLine tokens = AllByRecursion (λ t. IsOneLine (content_of_token t)) tokens
 
 -- a text is no longer than memory can hold
 abbrev pub IsHeld : Token → Type 0

@@ -24,8 +24,9 @@ use Rattle.iges_file.specs.declared.faults.FileFault.{FileFault}
 use Rattle.iges_file.specs.declared.faults.FileFault.TheVariants as fault
 use Rattle.iges_file.specs.Faults.{IsOfText, IsOuter, of_card, of_global, of_directory, of_graph}
 use Rattle.solid_base.specs.declared.entities.Entity.{Entity}
-use Rattle.iges_file.specs.Entities.{IsRowsFault, AreEntities, lines_of}
-use Rattle.iges_file.specs.Files.{most_lines, Refused}
+use Rattle.iges_parameters.specs.Accepted.{lines_of, most_lines}
+use Rattle.iges_file.specs.Entities.{IsRowsFault, AreEntities}
+use Rattle.iges_file.specs.Files.{Refused}
 
 pub card_refused : (bytes : List ℕ) (f : CardFault) → (cards.IsOfText f → cards_in bytes ≡ Err f) → IsOfText (of_card f) → Refused bytes (of_card f)
 card_refused bytes (card.Memory e) h text = absurd text

@@ -28,8 +28,9 @@ use Rattle.entity_graph.proofs.OneOfBoth as rules
 use Rattle.entity_graph.proofs.Outcomes as graphs
 use Rattle.iges_file.specs.declared.faults.FileFault.{FileFault}
 use Rattle.iges_file.specs.declared.faults.FileFault.TheVariants as fault
-use Rattle.iges_file.specs.Entities.{entity_in, AreEntities, IsBadRow, lines_of}
-use Rattle.iges_file.specs.Files.{most_lines, global_of, Reads, Refused}
+use Rattle.iges_parameters.specs.Accepted.{lines_of, most_lines}
+use Rattle.iges_file.specs.Entities.{entity_in, AreEntities, IsBadRow}
+use Rattle.iges_file.specs.Files.{global_of, Reads, Refused}
 use Rattle.iges_file.proofs.RowLoops.{entities_pushed}
 
 -- a model and where the file ends, or a fault

@@ -8,7 +8,8 @@ use Rattle.iges_parameters.specs.declared.faults.RowFault.TheVariants as row
 use Rattle.iges_parameters.specs.Faults.{IsOfText}
 use Rattle.iges_parameters.specs.Writing.{record_text, lines_for}
 use Rattle.iges_file.specs.Faults.{of_row}
-use Rattle.iges_file.specs.Entities.{entity_in, AreEntities, IsBadRow, IsRowsFault, lines_of}
+use Rattle.iges_parameters.specs.Accepted.{lines_of}
+use Rattle.iges_file.specs.Entities.{entity_in, AreEntities, IsBadRow, IsRowsFault}
 
 -- an entity more
 pub entities_pushed : (comma semi : ℕ) (params : List (List ℕ)) (pairs : List Pair) (es : List Entity) (pair : Pair) (e : Entity) → AreEntities comma semi params pairs es → entity_in comma semi params pair ≡ Ok e

@@ -6,15 +6,12 @@ use Rattle.solid_base.specs.declared.entities.Entity.{Entity}
 use Rattle.solid_base.specs.declared.entities.Token.{Token}
 use Rattle.solid_base.specs.declared.solids.Row.{Row}
 use Rattle.solid_base.specs.declared.solids.Row.TheVariants as row
-use Rattle.solid_base.specs.Ranges.{IsLawfulRow}
-use Rattle.iges_fields.specs.Layout.{AreSpelt}
 use Rattle.iges_directory.specs.declared.pairs.Pair.{Pair}
+pub use Rattle.iges_parameters.specs.Accepted.{IsWritable}
 use Rattle.iges_parameters.specs.declared.faults.RowFault.{RowFault}
 use Rattle.iges_parameters.specs.RecordFields.{fields_of}
 use Rattle.iges_parameters.specs.Tables.{is_read}
 use Rattle.iges_parameters.specs.Records.{record_of}
-use Rattle.iges_parameters.specs.Writing.{record_text, lines_for}
-use Rattle.iges_parameters.specs.WrittenRows.{IsTailOf}
 use Rattle.iges_file.specs.declared.faults.FileFault.{FileFault}
 use Rattle.iges_file.specs.declared.faults.FileFault.TheVariants as fault
 
@@ -67,20 +64,11 @@ pub record IsBadRow (comma semi : ℕ) (params : List (List ℕ)) (pairs : List 
   pub cut : pairs ≡ front ++ pair ∷ rest
   pub number : entity ≡ 2 * length front + 1
 
--- how many lines of 64 columns the entities' records take where they are written
-abbrev pub lines_of : ℕ → ℕ → List Entity → ℕ
-lines_of comma semi [] = 0
-lines_of comma semi (e ∷ es) = lines_for (length (record_text comma semi e.row e.tail)) + lines_of comma semi es
-
 -- ---- conditions of the calls
 
 -- the parameter lines of an entry, which isn't null, are lines of the file
 abbrev pub HasLines : ℕ → Pair → Type 0
 HasLines params pair = (pair.kind ≢ 0) → (1 ≤ pair.first) × (pair.first - 1 + pair.count ≤ params) × (pair.count ≤ 500000)
-
--- an entity whose record can be written
-abbrev pub IsWritable : Entity → Type 0
-IsWritable e = IsLawfulRow e.row × AreSpelt e.tail × IsTailOf e.row e.tail
 
 -- what is wrong with the rows of a file: the first record that has a fault. Out of memory says nothing of them
 abbrev pub IsRowsFault : ℕ → ℕ → List (List ℕ) → List Pair → FileFault → Type 0

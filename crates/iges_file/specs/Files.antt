@@ -19,11 +19,8 @@ use Rattle.entity_graph.specs.FirstFaults.{IsFault}
 use Rattle.solid_base.specs.Graph.{AreSound}
 use Rattle.iges_file.specs.declared.faults.FileFault.{FileFault}
 use Rattle.iges_file.specs.declared.faults.FileFault.TheVariants as fault
-use Rattle.iges_file.specs.Entities.{AreEntities, IsBadRow, lines_of}
-
--- solidd's own: how many lines the records of a model may take
-abbrev pub most_lines : ℕ
-most_lines = 300000
+use Rattle.iges_parameters.specs.Accepted.{lines_of, most_lines}
+use Rattle.iges_file.specs.Entities.{AreEntities, IsBadRow}
 
 -- the delimiters and the global parameters of a model
 abbrev pub global_of : Model → GlobalText

@@ -3,7 +3,8 @@ ghost use Rattle.std.specs.List.{AllByRecursion, concat, suffix_len};
 ghost use Rattle.solid_base.specs.Spelling.{is_blank, before_blanks};
 ghost use Rattle.iges_fields.specs.Delimiters.{AreDelimiters};
 ghost use Rattle.iges_parameters.specs.Faults.{IsOfText};
-ghost use Rattle.iges_file.specs.Entities.{text_of, kept_entity, entity_with, entity_in, HasLines, IsWritable};
+ghost use Rattle.iges_parameters.specs.Accepted.{IsWritable};
+ghost use Rattle.iges_file.specs.Entities.{text_of, kept_entity, entity_with, entity_in, HasLines};
 
 use iges_directory::Pair;
 use iges_parameters::{RowFault, is_read, read_row};

@@ -1,7 +1,7 @@
 ghost use Rattle.std.specs.Prelude.{◌≡◌, ◌≤◌, ◌^◌, length, IfOk, IfErr};
 ghost use Rattle.std.specs.List.{AllByRecursion};
 ghost use Rattle.iges_file.specs.Faults.{IsOfText, IsOuter};
-ghost use Rattle.iges_file.specs.Entities.{IsWritable};
+ghost use Rattle.iges_parameters.specs.Accepted.{IsWritable};
 ghost use Rattle.iges_file.specs.Files.{Reads, Refused};
 
 use crate::faults::FileFault;

@@ -1,7 +1,8 @@
 ghost use Rattle.std.specs.Prelude.{◌≡◌, ◌<◌, ◌≤◌, ◌+◌, ◌*◌, ◌^◌, ◌++◌, ◌∷◌, [], length, Ok, Err, IfOk, IfErr, OnOk};
 ghost use Rattle.std.specs.List.{AllByRecursion};
 ghost use Rattle.iges_fields.specs.Delimiters.{AreDelimiters};
-ghost use Rattle.iges_file.specs.Entities.{AreEntities, HasLines, IsWritable, IsRowsFault, lines_of};
+ghost use Rattle.iges_parameters.specs.Accepted.{IsWritable, lines_of};
+ghost use Rattle.iges_file.specs.Entities.{AreEntities, HasLines, IsRowsFault};
 ghost use Rattle.iges_file.specs.Faults.{of_row, IsOuter};
 
 use crate::entities::read_entity;

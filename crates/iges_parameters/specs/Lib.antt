@@ -8,3 +8,4 @@ pub mod Records
 pub mod Writing
 pub mod TreeFaults
 pub mod WrittenRows
+pub mod Accepted

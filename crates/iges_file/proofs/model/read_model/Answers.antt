@@ -4,8 +4,7 @@ use Rattle.iges_file.proofs.FormFacts.{form_within}
 use Rattle.iges_file.proofs.DirectoryFacts.{few_pairs, all_have_lines}
 use Rattle.iges_file.proofs.FirstFaults.{global_refused, directory_refused, rows_refused, graph_refused}
 use Rattle.iges_file.proofs.RowLoops.{entities_counted}
-use Rattle.iges_file.specs.Entities.{lines_of}
-use Rattle.iges_file.specs.Files.{most_lines}
+use Rattle.iges_parameters.specs.Accepted.{lines_of, most_lines}
 use Rattle.iges_file.proofs.model.read_model.Goals as goal
 
 pub read_global-requires : goal.read_global-requires

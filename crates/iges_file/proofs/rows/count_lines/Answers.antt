@@ -1,5 +1,5 @@
 use Rattle.std.proofs.Common.{◌≡◌, ◌+◌, add-one, arith, rules}
-use Rattle.iges_file.specs.Entities.{IsWritable}
+use Rattle.iges_parameters.specs.Accepted.{IsWritable}
 use Rattle.iges_file.proofs.RowLoops.{lines_next, all_after}
 use Rattle.iges_file.proofs.rows.count_lines.Goals as goal
 

@@ -1,6 +1,6 @@
 use Rattle.std.proofs.Common.{◌≡◌, ◌+◌, drop}
 use Rattle.std.specs.List.{AllByRecursion}
-use Rattle.iges_file.specs.Entities.{IsWritable, lines_of}
+use Rattle.iges_parameters.specs.Accepted.{IsWritable, lines_of}
 use Rattle.iges_file.proofs.rows.count_lines.Given as goal
 
 abbrev pub invariant-loop-at : goal.invariant-loop-at

@@ -1,6 +1,6 @@
 use Rattle.std.proofs.Common.{◌≡◌, List, ◌∷◌, [], ◌++◌, ◌∙◌, rules, sym, ap, arith, append_assoc, length-append}
 use Rattle.iges_directory.specs.declared.pairs.Pair.{Pair}
-use Rattle.iges_file.specs.Entities.{IsWritable}
+use Rattle.iges_parameters.specs.Accepted.{IsWritable}
 use Rattle.iges_file.proofs.RowLoops.{entities_pushed, all_pushed}
 use Rattle.iges_file.proofs.rows.read_rows.Goals as goal
 

@@ -1,6 +1,7 @@
 use Rattle.std.proofs.Common.{◌≡◌, ◌+◌, ◌*◌, ◌++◌, length}
 use Rattle.std.specs.List.{AllByRecursion}
-use Rattle.iges_file.specs.Entities.{AreEntities, HasLines, IsWritable}
+use Rattle.iges_parameters.specs.Accepted.{IsWritable}
+use Rattle.iges_file.specs.Entities.{AreEntities, HasLines}
 use Rattle.iges_file.proofs.rows.read_rows.Given as goal
 
 abbrev pub invariant-loop-pair : goal.invariant-loop-pair
