@@ -6,17 +6,17 @@ ghost use Rattle.iges_parameters.specs.Rules.{MovesUpTo};
 ghost use Rattle.iges_parameters.specs.Rows.{prim_at};
 ghost use Rattle.iges_parameters.specs.Writing.{tokens_by, whole, type_of_prim, rules_of_prim, numbers_of_prim};
 
-use crate::axes::checked_prim;
 use crate::faults::RowFault;
-use crate::makers::{block, cone, cylinder, ellipsoid, sphere, torus, wedge};
-use crate::number_tokens::push_numbers;
-use crate::numbers::numbers_of;
-use crate::parameters::Parameters;
+use crate::reading::axes::checked_prim;
+use crate::reading::makers::{block, cone, cylinder, ellipsoid, sphere, torus, wedge};
+use crate::reading::numbers::numbers_of;
+use crate::reading::parameters::Parameters;
 use crate::tables::{
     block_table, cone_table, cylinder_table, ellipsoid_table, sphere_table, torus_table,
     wedge_table,
 };
-use crate::tokens::TokenSink;
+use crate::writing::number_tokens::push_numbers;
+use crate::writing::tokens::TokenSink;
 use solid_base::{Prim, Vec3};
 use std::alloc::{AllocError, Global};
 

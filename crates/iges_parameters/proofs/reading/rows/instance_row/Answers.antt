@@ -1,0 +1,13 @@
+use Rattle.std.proofs.Common.{arith}
+use Rattle.iges_parameters.proofs.RowsRead.{instance_lawful}
+use Rattle.iges_parameters.proofs.reading.rows.instance_row.Goals as goal
+
+pub entity_number-requires : goal.entity_number-requires
+entity_number-requires c =
+    let read = rw c.instance_table.ensures at c.in_ok-numbers.ensures.value in
+    omega (arith, instance_lawful c.args.parameters.now (c.in_ok-numbers.numbers, c.numbers_of.new.parameters) read)
+
+pub returns-clause-lawful : goal.returns-clause-lawful
+returns-clause-lawful c =
+    let read = rw c.instance_table.ensures at c.in_ok-numbers.ensures.value in
+    rw c.entity_number.ensures (instance_lawful c.args.parameters.now (c.in_ok-numbers.numbers, c.numbers_of.new.parameters) read)

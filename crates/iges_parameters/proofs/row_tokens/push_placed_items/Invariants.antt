@@ -1,8 +1,0 @@
-use Rattle.std.proofs.Common.{◌≡◌, pos, map, drop}
-use Rattle.iges_parameters.specs.Writing.{whole}
-use Rattle.iges_parameters.proofs.row_tokens.push_placed_items.Given as goal
-
-abbrev pub invariant-loop-placed : goal.invariant-loop-placed
-invariant-loop-placed g l =
-    let with = g.S.TokenSink.with in
-    with l.tokens (map (λ p. whole (pos p.item)) (drop l.placed-index l.items)) ≡ with l.fn.tokens (map (λ p. whole (pos p.item)) l.items)

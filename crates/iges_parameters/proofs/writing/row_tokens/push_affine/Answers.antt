@@ -1,0 +1,12 @@
+use Rattle.std.proofs.Common.{sym, subst, arith}
+use Rattle.iges_parameters.proofs.Nearness.{AreNear, affine_near}
+use Rattle.iges_parameters.proofs.Pushed.{by_names}
+use Rattle.iges_parameters.proofs.writing.row_tokens.push_affine.Goals as goal
+
+pub push_numbers-requires : goal.push_numbers-requires
+push_numbers-requires g c =
+    let near : AreNear c.numbers_of_affine.result = subst AreNear (sym c.numbers_of_affine.ensures) (affine_near c.args.affine.now c.requires) in
+    (omega arith, (omega arith, (omega arith, near)))
+
+pub returns : goal.returns
+returns g c = by_names g.S.TokenSink.with c.push_numbers.result _ _ 124 _ _ _ _ c.matrix_table.ensures c.numbers_of_affine.ensures c.push_numbers.ensures
