@@ -7,7 +7,7 @@ use Rattle.solid_base.specs.declared.entities.Token.{Token}
 use Rattle.solid_base.specs.declared.entities.Token.TheVariants as token
 use Rattle.iges_fields.specs.declared.kinds.FieldKind.{FieldKind}
 use Rattle.iges_fields.specs.declared.kinds.FieldKind.TheVariants as kind
-use Rattle.iges_fields.specs.Grammar.{delimiter}
+use Rattle.iges_fields.specs.Grammar.{delimiter, IsField}
 use Rattle.iges_fields.specs.Reading.{Reading, field_at}
 
 -- ---- tokens as fields
@@ -45,6 +45,11 @@ AreSpelt tokens = AllByRecursion IsSpelt tokens
 abbrev pub AreOneLine : List Token → Type 0
 AreOneLine tokens = AllByRecursion (λ t. IsOneLine (content_of_token t)) tokens
 
+-- how many bytes tokens are spelt with, each with one delimiter after it and no blanks
+unfoldable pub spelt_size : List Token → ℕ
+spelt_size [] = 0
+spelt_size (t ∷ ts) = length (spelling_of_token t) + 1 + spelt_size ts
+
 -- a text is no longer than memory can hold
 abbrev pub IsHeld : Token → Type 0
 IsHeld token.Empty = Unit {0}
@@ -64,7 +69,13 @@ abbrev pub is_last : List Token → Bool
 is_last [] = true
 is_last (t ∷ ts) = false
 
--- the fields of a text are these tokens, and the record ends after the last
+-- a text begins with these fields, and semi ends the last of them; what stands after it is free
+abbrev pub AreFields : ℕ → ℕ → List ℕ → List Token → Type 0
+AreFields comma semi text [] = Unit {0}
+AreFields comma semi text (t ∷ ts) =
+    (rest : List ℕ) × IsField comma semi text (field_of t rest (is_last ts)) × AreFields comma semi rest ts
+
+-- what reading a text gives, field by field, is these tokens, and the record ends after the last
 abbrev pub Reads : ℕ → ℕ → List ℕ → List Token → Type 0
 Reads comma semi text [] = ⊥
 Reads comma semi text (t ∷ []) = (rest : List ℕ) × (field_at comma semi text ≡ Ok (field_of t rest true))

@@ -4,8 +4,9 @@ ghost use Rattle.iges_fields.specs.Delimiters.{AreDelimiters};
 ghost use Rattle.iges_fields.specs.Grammar.{delimiter};
 ghost use Rattle.iges_fields.specs.Layout.{spelling_of_token, piece, gap, placed, laid, AreSpelt, AreHeld, IsHeld, IsSpelt, AreLines, Reads};
 
+use crate::filling::{gap, lines_of};
 use itoa::Buffer;
-use solid_base::{Bytes, Lines, Token, Tokens};
+use solid_base::{Lines, Token, Tokens};
 use std::alloc::{AllocError, Global};
 
 fn push_spelling(out: &mut Vec<u8>, token: &Token) -> Result<(), AllocError>
@@ -44,24 +45,11 @@ fn delimiter(place: usize, count: usize, comma: u8, semi: u8) -> u8
     if place + 1 == count { semi } else { comma }
 }
 
-/// How many blanks stand before a piece of so many bytes.
-fn gap(width: usize, used: usize, size: usize) -> usize
-    requires { 0 < width }
-    ensures { result ≡ gap width used size }
-{
-    let column = used % width;
-    if column == 0 || size <= width - column {
-        0
-    } else {
-        width - column
-    }
-}
-
 fn place(out: &mut Vec<u8>, bytes: &[u8], width: usize) -> Result<(), AllocError>
     requires { 0 < width }
     ensures { OnOk result (out.new.items ≡ out.old.items ++ placed width (length out.old.items) bytes.now) }
 {
-    let blanks = gap(width, out.len(), bytes.len());
+    let blanks = gap(width as u64, out.len() as u64, bytes.len() as u64) as usize;
     let start = out.len().checked_add(blanks).ok_or(AllocError)?;
     out.resize(start, b' ')?;
     out.extend_from_slice(bytes)?;
@@ -90,30 +78,6 @@ fn laid(
         place(&mut text, &piece, width)?;
     }
     Ok(text)
-}
-
-/// A line of this width that begins with these bytes.
-fn filled(alloc: Global, bytes: &[u8], width: usize) -> Result<Bytes, AllocError>
-    requires { length bytes.now ≤ width }
-    ensures { IfOk result (λ line. line ≡ bytes.now ++ replicate (width - length bytes.now) 32) }
-{
-    let mut line = Vec::from_slice(alloc, bytes)?;
-    line.resize(width, b' ')?;
-    Ok(Bytes::from_vec(line))
-}
-
-fn lines_of(alloc: Global, text: &[u8], width: usize) -> Result<Lines, AllocError>
-    requires { 0 < width }
-    ensures { IfOk result (AreLines width text.now) }
-{
-    let mut lines = Lines::new(alloc);
-    let mut rest = text;
-    while !rest.is_empty() {
-        let (front, after) = rest.split_at(rest.len().min(width));
-        lines.push(filled(alloc, front, width)?)?;
-        rest = after;
-    }
-    Ok(lines)
 }
 
 /// The lines in which tokens are written, each of this many columns. Each token has a delimiter after
@@ -145,6 +109,7 @@ mod tests {
     use super::*;
     use crate::kinds::FieldKind;
     use crate::scan::kind_of;
+    use solid_base::Bytes;
 
     fn number(alloc: Global, text: &[u8]) -> Result<Token, AllocError>
         ensures { IfOk result IsSpelt }

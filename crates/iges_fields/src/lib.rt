@@ -4,6 +4,7 @@
 #![tactic(auto)]
 
 mod faults;
+mod filling;
 mod kinds;
 pub mod laws;
 mod layouts;
@@ -11,6 +12,7 @@ mod readers;
 mod scan;
 
 pub use faults::FieldFault;
+pub use filling::{gap, lines_of};
 pub use kinds::{Field, FieldKind};
 pub use layouts::lay;
 pub use readers::Fields;

@@ -8,7 +8,7 @@ ghost use Rattle.iges_fields.specs.Readers.{Gives, reading_of};
 use crate::faults::FieldFault;
 use crate::kinds::{Field, FieldKind};
 use crate::scan;
-use solid_base::{after_blanks, after_sign, digit_count, number_up_to};
+use solid_base::{after_blanks, after_sign, before_blanks, digit_count, number_up_to};
 use std::marker::Model;
 
 /// A field, what stands after its delimiter, and whether that delimiter ends the record.
@@ -59,7 +59,7 @@ fn word_at<'a>(bytes: &'a [u8], comma: u8, semi: u8) -> Result<Found<'a>, FieldF
     ensures { Gives result (word_at comma semi bytes.now) }
 {
     let (word, after) = bytes.split_at(scan::bytes_before(bytes, comma, semi));
-    let text = scan::before_blanks(word);
+    let text = before_blanks(word);
     match scan::kind_of(text) {
         Some(kind) => delimited(kind, text, after, comma, semi),
         None => Err(FieldFault::BadToken),

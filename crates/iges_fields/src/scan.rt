@@ -1,27 +1,9 @@
 ghost use Rattle.std.specs.Prelude.{◌≡◌, ◌≤◌, ◌<◌, length, IsTrue};
-ghost use Rattle.std.specs.List.{suffix_len};
-ghost use Rattle.solid_base.specs.Spelling.{is_blank, before_blanks, is_whole, is_exponent, class_with_rest, class_of};
+ghost use Rattle.solid_base.specs.Spelling.{is_whole, is_exponent, class_with_rest, class_of};
 ghost use Rattle.iges_fields.specs.Reading.{bytes_before, is_counted, kind_of};
 
 use crate::kinds::FieldKind;
 use solid_base::{after_sign, digit_count};
-
-fn blanks_after(text: &[u8]) -> usize
-    ensures within { result ≤ length text.now }
-    ensures value { result ≡ suffix_len is_blank text.now }
-{
-    text.iter()
-        .rev()
-        .take_while(|b| **b == b' ' || **b == b'\t')
-        .count()
-}
-
-/// The text without the blanks after it.
-pub fn before_blanks(text: &[u8]) -> &[u8]
-    ensures { result.now ≡ before_blanks text.now }
-{
-    &text[..text.len() - blanks_after(text)]
-}
 
 /// How many bytes stand before the first delimiter.
 pub fn bytes_before(text: &[u8], comma: u8, semi: u8) -> usize

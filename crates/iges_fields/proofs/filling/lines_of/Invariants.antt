@@ -1,6 +1,6 @@
 use Rattle.std.proofs.Common.{length}
 use Rattle.iges_fields.proofs.Lines.{IsCutTo}
-use Rattle.iges_fields.proofs.layouts.lines_of.Given as goal
+use Rattle.iges_fields.proofs.filling.lines_of.Given as goal
 
 abbrev pub invariant-loop-rest : goal.invariant-loop-rest
 invariant-loop-rest l = IsCutTo l.width l.text l.rest l.lines

@@ -1,6 +1,6 @@
 use Rattle.std.proofs.Common.{rules, arith, ◌≡◌, ◌<◌, length, min}
 use Rattle.iges_fields.proofs.Lines.{cut_more}
-use Rattle.iges_fields.proofs.layouts.lines_of.Goals as goal
+use Rattle.iges_fields.proofs.filling.lines_of.Goals as goal
 
 pub loop-rest-preserved : goal.loop-rest-preserved
 loop-rest-preserved c =
