@@ -3,10 +3,9 @@ use Rattle.std.proofs.Common.{◌≡◌, ◌≢◌, ℕ, suc, ◌+◌, ◌-◌, 
 use Rattle.solid_base.specs.declared.solids.Item.{Item}
 use Rattle.iges_parameters.specs.declared.faults.RowFault.{RowFault}
 use Rattle.iges_parameters.specs.declared.faults.RowFault.TheVariants as fault
-use Rattle.iges_parameters.specs.Faults.{◌>>=◌, Fails}
+use Rattle.solid_base.specs.Outcomes.{◌>>=◌}
 use Rattle.iges_parameters.specs.Rules.{Place}
 use Rattle.iges_parameters.specs.Lists.{trees_in, item_at, items_from}
-use Rattle.iges_parameters.proofs.RuleLoops.{fails_as}
 
 -- one item is taken
 one_taken : (count at : ℕ) (before : List Item) (p : Place) → at < count → items_from (count - at) before p ≡ (item_at before p >>= λ i. items_from (count - (at + 1)) (before ++ i.0 ∷ []) i.1)
@@ -19,9 +18,9 @@ goes_on count at before p q i total more h so_far =
     let next : items_from (count - at) before p ≡ items_from (count - (at + 1)) (before ++ i ∷ []) q = one_taken count at before p more ∙ rw h refl in
     sym next ∙ so_far
 
-pub ends : (f : RowFault) (count at : ℕ) (before : List Item) (p : Place) (total : Result (List Item × Place) RowFault) → at < count → Fails f (item_at before p)
-    → items_from (count - at) before p ≡ total → Fails f total
-ends f count at before p total more h so_far = fails_as f (item_at before p) total (λ e is. sym so_far ∙ one_taken count at before p more ∙ rw is refl) h
+pub ends : (f : RowFault) (count at : ℕ) (before : List Item) (p : Place) (total : Result (List Item × Place) RowFault) → at < count → item_at before p ≡ Err f
+    → items_from (count - at) before p ≡ total → total ≡ Err f
+ends f count at before p total more h so_far = sym so_far ∙ one_taken count at before p more ∙ rw h refl
 
 pub is_done : (count at : ℕ) (before : List Item) (p : Place) (total : Result (List Item × Place) RowFault) → count ≤ at → length (trees_in before) ≡ 1
     → items_from (count - at) before p ≡ total → total ≡ Ok (before, p)

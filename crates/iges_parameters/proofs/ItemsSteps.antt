@@ -1,7 +1,7 @@
 -- Chains of reading steps: what the whole gives, its parts gave.
 use Rattle.std.proofs.Common.{◌≡◌, Bool, true, false, cond, Result, Ok, Err, refl}
 use Rattle.iges_parameters.specs.declared.faults.RowFault.{RowFault}
-use Rattle.iges_parameters.specs.Faults.{◌>>=◌}
+use Rattle.solid_base.specs.Outcomes.{◌>>=◌}
 
 -- the value of a step
 pub bind_ok : {A B : Type 0} (r : Result A RowFault) (f : A → Result B RowFault) (y : B) → r >>= f ≡ Ok y → (x : A) × (r ≡ Ok x) × (f x ≡ Ok y)

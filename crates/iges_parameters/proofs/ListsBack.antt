@@ -11,7 +11,7 @@ use Rattle.solid_base.specs.Ranges.{IsLawfulItem, IsLawfulPlaced, most_whole}
 use Rattle.solid_base.specs.Trees.{Operation, union, intersection, difference, Tree, operand, combination, item_of, post_order, IsPostOrder}
 use Rattle.iges_parameters.specs.declared.faults.RowFault.{RowFault}
 use Rattle.iges_parameters.specs.declared.faults.RowFault.TheVariants as fault
-use Rattle.iges_parameters.specs.Faults.{◌>>=◌}
+use Rattle.solid_base.specs.Outcomes.{◌>>=◌}
 use Rattle.iges_parameters.specs.Rules.{Place, token_at, numbers_by, has_size, parameter}
 use Rattle.iges_parameters.specs.Tables.{list_rules, number, number_or_none}
 use Rattle.iges_parameters.specs.Lists.{count_at, with_item, trees_in, item_with, item_at, items_from, tree_at, placed_all, placed_at, assembly_at}

@@ -15,7 +15,7 @@ use Rattle.iges_parameters.specs.declared.faults.RowFault.TheVariants as fault
 use Rattle.iges_parameters.specs.declared.tables.Rule.{Rule}
 use Rattle.iges_parameters.specs.declared.tables.Values.{Values}
 use Rattle.iges_parameters.specs.declared.tables.Values.TheVariants as values
-use Rattle.iges_parameters.specs.Faults.{◌>>=◌}
+use Rattle.solid_base.specs.Outcomes.{◌>>=◌}
 use Rattle.iges_parameters.specs.Rules.{Place, token_at, is_far, near_steps, real_of, integer_of, short_integer, whole_of, not_below_0, number_by, has_size, sized, given, value_of, parameter_at, numbers_from}
 use Rattle.iges_parameters.specs.Writing.{integer_text, whole, real, token_by, tokens_by}
 use Rattle.iges_parameters.proofs.Nearness.{IsNear, AreNear}

@@ -12,7 +12,7 @@ use Rattle.iges_parameters.specs.declared.faults.RowFault.TheVariants as fault
 use Rattle.iges_parameters.specs.declared.tables.Rule.{Rule}
 use Rattle.iges_parameters.specs.declared.tables.Values.{Values}
 use Rattle.iges_parameters.specs.declared.tables.Values.TheVariants as values
-use Rattle.iges_parameters.specs.Faults.{◌>>=◌}
+use Rattle.solid_base.specs.Outcomes.{◌>>=◌}
 use Rattle.iges_parameters.specs.Rules.{Place, token_at, is_far, near_steps, real_of, whole_of, not_below_0, number_by, has_size, sized, default_of, given, value_of, parameter_at, numbers_from}
 use Rattle.iges_parameters.proofs.ItemsSteps.{bind_ok, ok_same, guarded}
 use Rattle.iges_parameters.proofs.WholeBounds.{whole_within}

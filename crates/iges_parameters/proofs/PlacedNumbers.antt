@@ -8,12 +8,11 @@ use Rattle.solid_base.specs.declared.entities.Token.TheVariants as token
 use Rattle.iges_parameters.specs.declared.faults.RowFault.{RowFault}
 use Rattle.iges_parameters.specs.declared.tables.Rule.{Rule}
 use Rattle.iges_parameters.specs.declared.tables.Values.TheVariants as values
-use Rattle.iges_parameters.specs.Faults.{◌>>=◌, Fails}
+use Rattle.solid_base.specs.Outcomes.{◌>>=◌}
 use Rattle.iges_parameters.specs.Rules.{Place, token_at, whole_of, not_below_0, number_by, has_size, value_of, parameter_at, numbers_from}
 use Rattle.iges_parameters.specs.Tables.{number, number_or_none}
 use Rattle.iges_parameters.proofs.ItemsSteps.{bind_ok, ok_same}
 use Rattle.iges_parameters.proofs.ItemsParts.{parameter_parts}
-use Rattle.iges_parameters.proofs.RuleLoops.{fails_as}
 use Rattle.iges_parameters.proofs.WholeBounds.{whole_within}
 
 -- the rule of an item, or that of a matrix
@@ -100,9 +99,9 @@ goes_on rule count at ns p q n total more is h so_far =
     map-append (λ k. pos k) ns (unsigned_abs n ∷ []) ∙ ap (λ (z : ℤ). map (λ k. pos k) ns ++ z ∷ []) (sym (parameter_number rule p n q is h).0) in
     rw same (sym next ∙ so_far)
 
-pub ends : (f : RowFault) (rule : Rule) (count at : ℕ) (before : List ℤ) (p : Place) (total : Result (List ℤ × Place) RowFault) → at < count → IsRule rule → Fails f (parameter_at rule [] p)
-    → numbers_from (replicate (count - at) rule) before p ≡ total → Fails f total
-ends f rule count at before p total more is h so_far = fails_as f (parameter_at rule [] p) total (λ e fault. sym so_far ∙ one_taken rule count at before p more is ∙ rw fault refl) h
+pub ends : (f : RowFault) (rule : Rule) (count at : ℕ) (before : List ℤ) (p : Place) (total : Result (List ℤ × Place) RowFault) → at < count → IsRule rule → parameter_at rule [] p ≡ Err f
+    → numbers_from (replicate (count - at) rule) before p ≡ total → total ≡ Err f
+ends f rule count at before p total more is h so_far = sym so_far ∙ one_taken rule count at before p more is ∙ rw h refl
 
 pub is_done : (rule : Rule) (count at : ℕ) (before : List ℤ) (p : Place) (total : Result (List ℤ × Place) RowFault) → count ≤ at
     → numbers_from (replicate (count - at) rule) before p ≡ total → total ≡ Ok (before, p)

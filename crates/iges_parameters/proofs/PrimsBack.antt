@@ -14,7 +14,7 @@ use Rattle.iges_parameters.specs.declared.faults.RowFault.{RowFault}
 use Rattle.iges_parameters.specs.declared.faults.RowFault.TheVariants as fault
 use Rattle.iges_parameters.specs.declared.tables.Rule.{Rule}
 use Rattle.iges_parameters.specs.declared.tables.Values.TheVariants as values
-use Rattle.iges_parameters.specs.Faults.{◌>>=◌}
+use Rattle.solid_base.specs.Outcomes.{◌>>=◌}
 use Rattle.iges_parameters.specs.Rules.{Place, has_size, numbers_by}
 use Rattle.iges_parameters.specs.Tables.{point, x_axis, z_axis, block_rules, wedge_rules, cylinder_rules, cone_rules, sphere_rules, torus_rules, ellipsoid_rules, matrix_rules}
 use Rattle.iges_parameters.specs.Rows.{block_of, wedge_of, cylinder_of, cone_of, sphere_of, torus_of, ellipsoid_of, affine_of, is_small, is_unit, is_right_angle, with_axis, with_axes, checked_prim, checked_affine, prim_by, prim_at}

@@ -14,7 +14,7 @@ use Rattle.solid_base.specs.declared.solids.Row.TheVariants as row
 use Rattle.solid_base.specs.Ranges.{IsLawfulRow, most_whole}
 use Rattle.iges_parameters.specs.declared.faults.RowFault.{RowFault}
 use Rattle.iges_parameters.specs.declared.faults.RowFault.TheVariants as fault
-use Rattle.iges_parameters.specs.Faults.{◌>>=◌}
+use Rattle.solid_base.specs.Outcomes.{◌>>=◌}
 use Rattle.iges_parameters.specs.Rules.{Place, token_at, integer_of, has_size, parameter}
 use Rattle.iges_parameters.specs.Tables.{is_read, matrix_rules, instance_rules}
 use Rattle.iges_parameters.specs.Rows.{affine_of, checked_affine, prim_at}

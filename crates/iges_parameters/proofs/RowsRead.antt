@@ -10,7 +10,7 @@ use Rattle.solid_base.specs.Ranges.{IsSize, dot, thousandth, IsUnit, IsRightAngl
 use Rattle.iges_parameters.specs.declared.faults.RowFault.TheVariants as fault
 use Rattle.iges_parameters.specs.declared.tables.Rule.{Rule}
 use Rattle.iges_parameters.specs.declared.tables.Values.TheVariants as values
-use Rattle.iges_parameters.specs.Faults.{◌>>=◌}
+use Rattle.solid_base.specs.Outcomes.{◌>>=◌}
 use Rattle.iges_parameters.specs.Rules.{Place, parameter, has_size, numbers_from}
 use Rattle.iges_parameters.specs.Tables.{size, needed, zero_or, one_or, number, instance_rules, matrix_rules, block_rules, wedge_rules, cylinder_rules, cone_rules, sphere_rules, torus_rules, ellipsoid_rules}
 use Rattle.iges_parameters.specs.Rows.{point_at, is_small, is_unit, is_right_angle, with_axis, with_axes, are_orthonormal, checked_prim, checked_affine, block_of, wedge_of, cylinder_of, cone_of, sphere_of, torus_of, ellipsoid_of, affine_of, prim_by, prim_at}

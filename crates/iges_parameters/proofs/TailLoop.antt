@@ -1,11 +1,10 @@
 -- The fields after the defined parameters, read one after the other, as a loop does.
-use Rattle.std.proofs.Common.{◌≡◌, ℕ, suc, ◌+◌, ◌-◌, ◌^◌, ◌<◌, List, [], ◌∷◌, ◌++◌, length, Option, Some, None, Result, Ok, Err, refl, sym, ap, ◌∙◌, arith}
+use Rattle.std.proofs.Common.{◌≡◌, suc, ◌+◌, ◌-◌, ◌^◌, ◌<◌, List, [], ◌∷◌, ◌++◌, length, Option, Some, None, Result, Ok, Err, refl, sym, ap, ◌∙◌, arith}
 use Rattle.std.specs.List.{AllByRecursion}
 use Rattle.solid_base.specs.declared.entities.Token.{Token}
 use Rattle.iges_fields.specs.declared.kinds.Field.{Field}
 use Rattle.iges_parameters.specs.declared.faults.RowFault.{RowFault}
 use Rattle.iges_parameters.specs.declared.faults.RowFault.TheVariants as fault
-use Rattle.iges_parameters.specs.Faults.{Fails}
 use Rattle.iges_parameters.specs.RecordFields.{token_of}
 use Rattle.iges_parameters.specs.Rules.{Place}
 use Rattle.iges_parameters.specs.Records.{IsMore, tail_from}
@@ -33,14 +32,11 @@ tail_done tokens old new total more so_far =
     let one : tail_from tokens old.index old.fields ≡ Ok tokens = rw more refl in
     sym so_far ∙ one
 
-token_fails : (index : ℕ) (total : Result (List Token) RowFault) → total ≡ Err (fault.Token index) → Fails (fault.Token index) total
-token_fails index total h = h
-
-pub tail_ends : (tokens : List Token) (old new : Place) (f : RowFault) (total : Result (List Token) RowFault) → IsMore old new (Err f) → tail_from tokens old.index old.fields ≡ total → Fails f total
+pub tail_ends : (tokens : List Token) (old new : Place) (f : RowFault) (total : Result (List Token) RowFault) → IsMore old new (Err f) → tail_from tokens old.index old.fields ≡ total → total ≡ Err f
 unfolding tail_from
 tail_ends tokens old new f total (rest, fields, is) so_far =
     let one : tail_from tokens old.index old.fields ≡ Err (fault.Token old.index) = rw fields refl in
-    rw is (token_fails old.index total (sym so_far ∙ one))
+    rw is (sym so_far ∙ one)
 
 -- what holds of each item, and of one after them
 pub all_pushed : {X : Type 0} (P : X → Type 0) (xs : List X) (x : X) → AllByRecursion P xs → P x → AllByRecursion P (xs ++ x ∷ [])

@@ -13,7 +13,7 @@ use Rattle.boolean_tree.proofs.Steps.{lacks, others_left}
 use Rattle.iges_parameters.specs.declared.faults.RowFault.{RowFault}
 use Rattle.iges_parameters.specs.declared.faults.RowFault.TheVariants as fault
 use Rattle.iges_parameters.specs.declared.tables.Values.TheVariants as values
-use Rattle.iges_parameters.specs.Faults.{◌>>=◌}
+use Rattle.solid_base.specs.Outcomes.{◌>>=◌}
 use Rattle.iges_parameters.specs.Rules.{Place, next_field, token_at, integer_of, short_integer, whole_of, has_size, sized, number_by, value_of, parameter_at, numbers_from, numbers_by}
 use Rattle.iges_parameters.specs.Tables.{count, list_rules}
 use Rattle.iges_parameters.specs.Lists.{trees_in, operation_with, item_with, item_at, items_from, count_at, tree_at}

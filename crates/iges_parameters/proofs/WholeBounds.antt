@@ -7,7 +7,7 @@ use Rattle.solid_base.specs.declared.entities.Token.TheVariants as token
 use Rattle.iges_parameters.specs.declared.faults.RowFault.TheVariants as fault
 use Rattle.iges_parameters.specs.Rules.{Place, integer_of, short_integer, whole_of, has_size, sized, number_by, value_of, parameter, parameter_at, numbers_from, numbers_by}
 use Rattle.iges_parameters.specs.Tables.{count, list_rules}
-use Rattle.iges_parameters.specs.Faults.{◌>>=◌}
+use Rattle.solid_base.specs.Outcomes.{◌>>=◌}
 use Rattle.iges_parameters.specs.declared.tables.Values.TheVariants as values
 use Rattle.iges_parameters.proofs.ItemsSteps.{bind_ok, ok_same, guarded}
 use Rattle.iges_parameters.proofs.ItemsParts.{parameter_parts}

@@ -1,5 +1,6 @@
 -- Faults of records: their numbers and words, which are solidd's own.
 use Rattle.std.specs.Prelude.{◌≡◌, ◌≢◌, ℕ, List, ◌++◌, codes, decimal, Result, Ok, Err}
+pub use Rattle.solid_base.specs.Outcomes.{◌>>=◌}
 use Rattle.iges_parameters.specs.declared.faults.RowFault.{RowFault}
 use Rattle.iges_parameters.specs.declared.faults.RowFault.TheVariants as fault
 
@@ -33,26 +34,8 @@ fault_words (fault.BadAxis index) = codes "BadAxis " ++ decimal index
 fault_words fault.BadMatrix = codes "BadMatrix"
 fault_words (fault.BadPostfix index) = codes "BadPostfix " ++ decimal index
 
--- a step of reading, and then the next on what it gave
-infixl 10 ◌>>=◌
-abbrev pub ◌>>=◌ : {A B : Type 0} → Result A RowFault → (A → Result B RowFault) → Result B RowFault
-(Ok x) >>= f = f x
-(Err e) >>= f = Err e
-
--- out of memory says nothing of the record; another fault is the one that reading gives
-abbrev pub Fails : {Y : Type 0} → RowFault → Result Y RowFault → Type 0
-Fails (fault.Memory e) read = Unit {0}
-Fails fault.NotRead read = read ≡ Err fault.NotRead
-Fails (fault.Token index) read = read ≡ Err (fault.Token index)
-Fails (fault.Missing index) read = read ≡ Err (fault.Missing index)
-Fails (fault.WrongKind index) read = read ≡ Err (fault.WrongKind index)
-Fails (fault.TooFar index) read = read ≡ Err (fault.TooFar index)
-Fails (fault.BadSize index) read = read ≡ Err (fault.BadSize index)
-Fails (fault.BadAxis index) read = read ≡ Err (fault.BadAxis index)
-Fails fault.BadMatrix read = read ≡ Err fault.BadMatrix
-Fails (fault.BadPostfix index) read = read ≡ Err (fault.BadPostfix index)
-
--- what a function returned, seen by view, is what reading gives; it may instead answer out of memory
-abbrev pub Gives : {X Y : Type 0} → (X → Y) → Result X RowFault → Result Y RowFault → Type 0
-Gives view (Ok x) read = read ≡ Ok (view x)
-Gives view (Err f) read = Fails f read
+-- what a function that takes memory returned, seen by view, is what the reading gives; out of memory says
+-- nothing of the record
+abbrev pub GivesOrMemory : {X Y : Type 0} → (X → Y) → Result X RowFault → Result Y RowFault → Type 0
+GivesOrMemory view (Ok x) reading = reading ≡ Ok (view x)
+GivesOrMemory view (Err f) reading = IsOfText f → reading ≡ Err f

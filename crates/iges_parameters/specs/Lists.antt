@@ -6,7 +6,7 @@ use Rattle.solid_base.specs.declared.solids.Placed.{Placed}
 use Rattle.solid_base.specs.Trees.{Operation, union, intersection, difference, Tree, operand, combination}
 use Rattle.iges_parameters.specs.declared.faults.RowFault.{RowFault}
 use Rattle.iges_parameters.specs.declared.faults.RowFault.TheVariants as fault
-use Rattle.iges_parameters.specs.Faults.{◌>>=◌}
+use Rattle.solid_base.specs.Outcomes.{◌>>=◌}
 use Rattle.iges_parameters.specs.Rules.{Place, token_at, whole_of, numbers_by, parameter}
 use Rattle.iges_parameters.specs.Tables.{list_rules, number, number_or_none}
 

@@ -8,7 +8,7 @@ use Rattle.solid_base.specs.declared.solids.Row.TheVariants as row
 use Rattle.iges_parameters.specs.declared.faults.RowFault.{RowFault}
 use Rattle.iges_parameters.specs.declared.faults.RowFault.TheVariants as fault
 use Rattle.iges_fields.specs.declared.kinds.Field.{Field}
-use Rattle.iges_parameters.specs.Faults.{◌>>=◌}
+use Rattle.solid_base.specs.Outcomes.{◌>>=◌}
 use Rattle.iges_parameters.specs.RecordFields.{token_of}
 use Rattle.iges_parameters.specs.Rules.{Place, token_at, integer_of, numbers_by, parameter}
 use Rattle.iges_parameters.specs.Tables.{is_read, matrix_rules, instance_rules}

@@ -8,7 +8,7 @@ use Rattle.solid_base.specs.Ranges.{dot, thousandth, column1, column2, column3}
 use Rattle.iges_parameters.specs.declared.faults.RowFault.{RowFault}
 use Rattle.iges_parameters.specs.declared.faults.RowFault.TheVariants as fault
 use Rattle.iges_parameters.specs.declared.tables.Rule.{Rule}
-use Rattle.iges_parameters.specs.Faults.{◌>>=◌}
+use Rattle.solid_base.specs.Outcomes.{◌>>=◌}
 use Rattle.iges_parameters.specs.Rules.{Place, parameter, numbers_by}
 use Rattle.iges_parameters.specs.Tables.{block_rules, wedge_rules, cylinder_rules, cone_rules, sphere_rules, torus_rules, ellipsoid_rules}
 

@@ -6,7 +6,7 @@ use Rattle.solid_base.specs.declared.solids.Item.{Item}
 use Rattle.solid_base.specs.Trees.{Operation, Tree, item_of, post_order}
 use Rattle.boolean_tree.specs.Faults.{LacksOperands, LeavesOthers}
 use Rattle.iges_parameters.specs.declared.faults.RowFault.{RowFault}
-use Rattle.iges_parameters.specs.Faults.{◌>>=◌}
+use Rattle.solid_base.specs.Outcomes.{◌>>=◌}
 use Rattle.iges_parameters.specs.Rules.{Place, token_at, whole_of}
 use Rattle.iges_parameters.specs.Lists.{count_at}
 use Rattle.iges_parameters.specs.Writing.{number_of_item}

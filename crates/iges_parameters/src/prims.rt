@@ -1,7 +1,7 @@
 ghost use Rattle.std.specs.Prelude.{◌≡◌, ◌<◌, ◌≤◌, ◌^◌, ◌∷◌, pos, IfOk, OnOk, unsigned_abs};
 ghost use Rattle.std.specs.List.{AllByRecursion};
 ghost use Rattle.solid_base.specs.Range.{far};
-ghost use Rattle.iges_parameters.specs.Faults.{Gives};
+ghost use Rattle.solid_base.specs.Outcomes.{Gives};
 ghost use Rattle.iges_parameters.specs.Rules.{MovesUpTo};
 ghost use Rattle.iges_parameters.specs.Rows.{prim_at};
 ghost use Rattle.iges_parameters.specs.Writing.{tokens_by, whole, type_of_prim, rules_of_prim, numbers_of_prim};

@@ -1,7 +1,7 @@
 ghost use Rattle.std.specs.Prelude.{◌≡◌, ◌⊎◌, ◌<◌, ◌≤◌, ◌+◌, ◌-◌, ◌*◌, ◌^◌, map, replicate, length, IfOk, pos};
 ghost use Rattle.std.specs.List.{AllByRecursion};
 ghost use Rattle.solid_base.specs.Ranges.{IsLawfulPlaced};
-ghost use Rattle.iges_parameters.specs.Faults.{Gives};
+ghost use Rattle.iges_parameters.specs.Faults.{GivesOrMemory};
 ghost use Rattle.iges_parameters.specs.Rules.{Moves, numbers_by};
 ghost use Rattle.iges_parameters.specs.Tables.{number, number_or_none};
 ghost use Rattle.iges_parameters.specs.Lists.{placed_all, placed_at, assembly_at};
@@ -23,7 +23,7 @@ fn numbers(
 ) -> Result<Numbers, RowFault>
     requires near { parameters.now.index + count < 2 ^ 32 - 1 }
     requires rule { (rule.now ≡ number) ⊎ (rule.now ≡ number_or_none) }
-    ensures value { Gives (λ ns. (map (λ n. pos n) ns, parameters.new)) result (numbers_by (replicate count rule.now) parameters.old) }
+    ensures value { GivesOrMemory (λ ns. (map (λ n. pos n) ns, parameters.new)) result (numbers_by (replicate count rule.now) parameters.old) }
     ensures moves { IfOk result (λ ns. Moves count parameters.old parameters.new) }
     ensures long { IfOk result (λ ns. length ns ≡ count) }
     ensures within { IfOk result (λ ns. AllByRecursion (λ n. n ≤ 9999999) ns) }
@@ -55,7 +55,7 @@ fn placed_all(alloc: Global, items: &[u32], matrices: &[u32]) -> Result<PlacedLi
 fn placed(alloc: Global, parameters: &mut Parameters, count: u32) -> Result<PlacedList, RowFault>
     requires count { count ≤ 9999999 }
     requires near { parameters.now.index < 2 ^ 31 }
-    ensures value { Gives (λ items. (items, parameters.new)) result (placed_at count parameters.old) }
+    ensures value { GivesOrMemory (λ items. (items, parameters.new)) result (placed_at count parameters.old) }
     ensures moves { IfOk result (λ items. Moves (length items * 2) parameters.old parameters.new) }
     ensures long { IfOk result (λ items. length items ≡ count) }
     ensures lawful { IfOk result (λ items. AllByRecursion IsLawfulPlaced items) }
@@ -74,7 +74,7 @@ fn placed(alloc: Global, parameters: &mut Parameters, count: u32) -> Result<Plac
 #[tactic(auto, unfolding(crate::specs::Lists::assembly_at))]
 pub fn assembly(alloc: Global, parameters: &mut Parameters) -> Result<PlacedList, RowFault>
     requires near { parameters.now.index < 2 ^ 30 }
-    ensures value { Gives (λ items. (items, parameters.new)) result (assembly_at parameters.old) }
+    ensures value { GivesOrMemory (λ items. (items, parameters.new)) result (assembly_at parameters.old) }
     ensures moves { IfOk result (λ items. Moves (length items * 2 + 1) parameters.old parameters.new) }
     ensures some { IfOk result (λ items. 0 < length items) }
     ensures long { IfOk result (λ items. length items ≤ 9999999) }

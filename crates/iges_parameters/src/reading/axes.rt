@@ -1,7 +1,7 @@
 ghost use Rattle.std.specs.Prelude.{◌≡◌, ◌<◌, ◌↔◌, ◌^◌, ◌*◌, ◌*ℤ◌, IsTrue, IfOk};
 ghost use Rattle.solid_base.specs.Range.{IsWithin, IsPointWithin};
 ghost use Rattle.solid_base.specs.Ranges.{dot, column1, column2, column3};
-ghost use Rattle.iges_parameters.specs.Faults.{Gives};
+ghost use Rattle.solid_base.specs.Outcomes.{Gives};
 ghost use Rattle.iges_parameters.specs.Rows.{is_small, is_unit, is_right_angle, are_orthonormal, with_axis, with_axes, checked_prim, checked_affine};
 
 use crate::faults::RowFault;

@@ -1,5 +1,5 @@
 ghost use Rattle.std.specs.Prelude.{◌≡◌, ◌<◌, ◌≤◌, ◌+◌, ◌^◌, IfOk};
-ghost use Rattle.iges_parameters.specs.Faults.{Gives};
+ghost use Rattle.solid_base.specs.Outcomes.{Gives};
 ghost use Rattle.iges_parameters.specs.Rules.{Moves};
 ghost use Rattle.iges_parameters.specs.Lists.{count_at};
 

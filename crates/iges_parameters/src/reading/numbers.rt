@@ -1,6 +1,6 @@
 ghost use Rattle.std.specs.Prelude.{◌≡◌, ◌<◌, ◌+◌, ◌-◌, ◌≤◌, ◌^◌, length, IfOk, IfErr, [], unsigned_abs};
 ghost use Rattle.iges_fields.specs.Layout.{IsSpelt};
-ghost use Rattle.iges_parameters.specs.Faults.{Gives};
+ghost use Rattle.solid_base.specs.Outcomes.{Gives};
 ghost use Rattle.iges_parameters.specs.RecordFields.{token_of};
 ghost use Rattle.iges_parameters.specs.Rules.{near_steps, real_of, has_size, sized, not_below_0, number_by, value_of, given, default_of, parameter, parameter_at, numbers_from, Moves};
 

@@ -1,7 +1,7 @@
 ghost use Rattle.std.specs.Prelude.{◌≡◌, ◌<◌, ◌+◌, ◌-◌, ◌≤◌, ◌^◌, length, IfOk, IfSome};
 ghost use Rattle.iges_fields.specs.Delimiters.{AreDelimiters};
 ghost use Rattle.iges_fields.specs.Layout.{IsSpelt};
-ghost use Rattle.iges_parameters.specs.Faults.{Gives};
+ghost use Rattle.solid_base.specs.Outcomes.{Gives};
 ghost use Rattle.iges_parameters.specs.RecordFields.{token_of, fields_of, fields_left};
 ghost use Rattle.iges_parameters.specs.Rules.{Place, Moves, token_at};
 ghost use Rattle.iges_parameters.specs.Records.{IsMore};

@@ -2,7 +2,7 @@ ghost use Rattle.std.specs.Prelude.{◌≡◌, ◌<◌, ◌≤◌, ◌+◌, ◌*
 ghost use Rattle.solid_base.specs.Ranges.{IsLawfulRow};
 ghost use Rattle.iges_fields.specs.Delimiters.{AreDelimiters};
 ghost use Rattle.iges_fields.specs.Layout.{AreSpelt};
-ghost use Rattle.iges_parameters.specs.Faults.{Gives, IsOfText};
+ghost use Rattle.iges_parameters.specs.Faults.{GivesOrMemory, IsOfText};
 ghost use Rattle.iges_parameters.specs.RecordFields.{fields_of};
 ghost use Rattle.iges_parameters.specs.Rules.{MovesUpTo};
 ghost use Rattle.iges_parameters.specs.Tables.{is_read};
@@ -22,7 +22,7 @@ use std::alloc::Global;
 #[tactic(auto, unfolding(crate::specs::Records::tree_row))]
 fn tree_row(alloc: Global, matrix: u32, parameters: &mut Parameters) -> Result<Row, RowFault>
     requires near { parameters.now.index < 2 ^ 30 }
-    ensures value { Gives (λ row. (row, parameters.new)) result (tree_row matrix parameters.old) }
+    ensures value { GivesOrMemory (λ row. (row, parameters.new)) result (tree_row matrix parameters.old) }
     ensures moves { IfOk result (λ row. MovesUpTo (2 * 10 ^ 7) parameters.old parameters.new) }
     ensures lawful { IfOk result IsLawfulRow }
 {
@@ -34,7 +34,7 @@ fn tree_row(alloc: Global, matrix: u32, parameters: &mut Parameters) -> Result<R
 #[tactic(auto, unfolding(crate::specs::Records::assembly_row))]
 fn assembly_row(alloc: Global, matrix: u32, parameters: &mut Parameters) -> Result<Row, RowFault>
     requires near { parameters.now.index < 2 ^ 30 }
-    ensures value { Gives (λ row. (row, parameters.new)) result (assembly_row matrix parameters.old) }
+    ensures value { GivesOrMemory (λ row. (row, parameters.new)) result (assembly_row matrix parameters.old) }
     ensures moves { IfOk result (λ row. MovesUpTo (2 * 10 ^ 7) parameters.old parameters.new) }
     ensures lawful { IfOk result IsLawfulRow }
 {
@@ -53,7 +53,7 @@ fn row_of(
 ) -> Result<Row, RowFault>
     requires form { kind ≡ 124 → form ≤ 1 }
     requires near { parameters.now.index < 2 ^ 30 }
-    ensures value { Gives (λ row. (row, parameters.new)) result (row_at kind form matrix parameters.old) }
+    ensures value { GivesOrMemory (λ row. (row, parameters.new)) result (row_at kind form matrix parameters.old) }
     ensures moves { IfOk result (λ row. MovesUpTo (2 * 10 ^ 7) parameters.old parameters.new) }
     ensures lawful { IfOk result IsLawfulRow }
 {

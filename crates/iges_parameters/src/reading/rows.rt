@@ -1,7 +1,7 @@
 ghost use Rattle.std.specs.Prelude.{◌≡◌, ◌<◌, ◌≤◌, ◌^◌, IfOk, unsigned_abs};
 ghost use Rattle.solid_base.specs.Ranges.{IsLawfulRow};
 ghost use Rattle.iges_fields.specs.Layout.{IsSpelt};
-ghost use Rattle.iges_parameters.specs.Faults.{Gives};
+ghost use Rattle.solid_base.specs.Outcomes.{Gives};
 ghost use Rattle.iges_parameters.specs.RecordFields.{token_of};
 ghost use Rattle.iges_parameters.specs.Rules.{MovesUpTo, parameter};
 ghost use Rattle.iges_parameters.specs.Records.{type_of, type_at, prim_row, matrix_row, instance_row};

@@ -1,6 +1,6 @@
 ghost use Rattle.std.specs.Prelude.{◌≡◌, ◌<◌, ◌+◌, ◌-◌, ◌^◌, [], ◌∷◌, ◌++◌, length, IfOk, OnOk};
 ghost use Rattle.iges_fields.specs.Layout.{IsSpelt, AreSpelt};
-ghost use Rattle.iges_parameters.specs.Faults.{Gives};
+ghost use Rattle.iges_parameters.specs.Faults.{GivesOrMemory};
 ghost use Rattle.iges_parameters.specs.RecordFields.{token_of};
 ghost use Rattle.iges_parameters.specs.Records.{tail_from};
 
@@ -32,7 +32,7 @@ fn push_field(alloc: Global, tokens: &mut Tokens, field: &Field) -> Result<(), A
 /// The fields after the defined parameters, up to the end of the record.
 pub fn read_tail(alloc: Global, parameters: &mut Parameters) -> Result<Tokens, RowFault>
     requires few { parameters.now.index + length parameters.now.fields < 2 ^ 32 - 1 }
-    ensures value { Gives (λ tail. tail) result (tail_from [] parameters.old.index parameters.old.fields) }
+    ensures value { GivesOrMemory (λ tail. tail) result (tail_from [] parameters.old.index parameters.old.fields) }
     ensures spelt { IfOk result AreSpelt }
 {
     let mut tokens = Tokens::new(alloc);

@@ -3,7 +3,8 @@ ghost use Rattle.std.specs.List.{AllByRecursion};
 ghost use Rattle.solid_base.specs.declared.solids.Item.{Item};
 ghost use Rattle.solid_base.specs.Trees.{IsPostOrder};
 ghost use Rattle.solid_base.specs.Ranges.{IsLawfulItem};
-ghost use Rattle.iges_parameters.specs.Faults.{Gives};
+ghost use Rattle.solid_base.specs.Outcomes.{Gives};
+ghost use Rattle.iges_parameters.specs.Faults.{GivesOrMemory};
 ghost use Rattle.iges_parameters.specs.Rules.{Moves};
 ghost use Rattle.iges_parameters.specs.Lists.{trees_in, item_with, item_at, items_from, tree_at};
 
@@ -62,7 +63,7 @@ fn next_item(parameters: &mut Parameters, trees: u32) -> Result<(Item, u32), Row
 fn items(alloc: Global, parameters: &mut Parameters, count: u32) -> Result<Items, RowFault>
     requires count { count ≤ 9999999 }
     requires near { parameters.now.index < 2 ^ 31 }
-    ensures value { Gives (λ items. (items, parameters.new)) result (items_from count [] parameters.old) }
+    ensures value { GivesOrMemory (λ items. (items, parameters.new)) result (items_from count [] parameters.old) }
     ensures moves { IfOk result (λ items. Moves (length items) parameters.old parameters.new) }
     ensures long { IfOk result (λ items. length items ≡ count) }
     ensures lawful { IfOk result (λ items. AllByRecursion IsLawfulItem items) }
@@ -91,7 +92,7 @@ fn items(alloc: Global, parameters: &mut Parameters, count: u32) -> Result<Items
 #[tactic(auto, unfolding(crate::specs::Lists::tree_at))]
 pub fn tree(alloc: Global, parameters: &mut Parameters) -> Result<Items, RowFault>
     requires near { parameters.now.index < 2 ^ 30 }
-    ensures value { Gives (λ items. (items, parameters.new)) result (tree_at parameters.old) }
+    ensures value { GivesOrMemory (λ items. (items, parameters.new)) result (tree_at parameters.old) }
     ensures moves { IfOk result (λ items. Moves (length items + 1) parameters.old parameters.new) }
     ensures long { IfOk result (λ items. length items ≤ 9999999) }
     ensures lawful { IfOk result (λ items. AllByRecursion IsLawfulItem items) }

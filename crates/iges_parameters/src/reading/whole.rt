@@ -3,7 +3,7 @@ ghost use Rattle.std.specs.Ordering.{int_eq};
 ghost use Rattle.solid_base.specs.Spelling.{IsWhole, sign_of};
 ghost use Rattle.solid_base.specs.Decimal.{with_sign};
 ghost use Rattle.iges_fields.specs.Layout.{IsSpelt};
-ghost use Rattle.iges_parameters.specs.Faults.{Gives};
+ghost use Rattle.solid_base.specs.Outcomes.{Gives};
 ghost use Rattle.iges_parameters.specs.RecordFields.{token_of};
 ghost use Rattle.iges_parameters.specs.Rules.{integer_of, short_integer, whole_of};
 

@@ -7,7 +7,7 @@ use Rattle.iges_parameters.proofs.reading.assemblies.numbers.Goals as goal
 pub returns-in_err-number-clause-value : goal.returns-in_err-number-clause-value
 returns-in_err-number-clause-value c =
     let p = err_from_is_err_and c.from_residual.result c.from_residual.ensures.1 in
-    rw (p.1, p.2) (ends _ c.args.rule.now c.args.count c.loop.counter _ c.loop.parameters _ c.loop-test.true c.requires.rule c.in_err-number.ensures.value c.loop.invariant.so_far)
+    rw (p.1, p.2) (λ text. ends _ c.args.rule.now c.args.count c.loop.counter _ c.loop.parameters _ c.loop-test.true c.requires.rule c.in_err-number.ensures.value c.loop.invariant.so_far)
 
 pub overflow_cast-unsigned_abs : goal.overflow_cast-unsigned_abs
 overflow_cast-unsigned_abs c =

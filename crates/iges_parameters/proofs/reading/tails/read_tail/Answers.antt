@@ -6,7 +6,7 @@ use Rattle.iges_parameters.proofs.reading.tails.read_tail.Goals as goal
 pub returns-in_err-field-clause-value : goal.returns-in_err-field-clause-value
 returns-in_err-field-clause-value c =
     let p = err_from_is_err_and c.from_residual.result c.from_residual.ensures.1 in
-    rw (p.1, p.2) (tail_ends c.loop-tokens.tokens c.loop-tokens.parameters c.more.new.self c.in_err-field.field-0.0 _ c.in_err-field.ensures.more c.loop-tokens.invariant.so_far)
+    rw (p.1, p.2) (λ text. tail_ends c.loop-tokens.tokens c.loop-tokens.parameters c.more.new.self c.in_err-field.field-0.0 _ c.in_err-field.ensures.more c.loop-tokens.invariant.so_far)
 
 pub loop-tokens-preserved : goal.loop-tokens-preserved
 loop-tokens-preserved c =

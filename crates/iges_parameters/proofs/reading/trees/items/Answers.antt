@@ -15,7 +15,7 @@ pub returns-in_err-item-clause-value : goal.returns-in_err-item-clause-value
 returns-in_err-item-clause-value c =
     let p = err_from_is_err_and c.from_residual.result c.from_residual.ensures.1 in
     let fails = c.in_err-item.ensures.value c.loop.items c.loop.invariant.at_hand in
-    rw (p.1, p.2) (ends _ c.args.count c.loop.counter c.loop.items c.loop.parameters _ c.loop-test.true fails c.loop.invariant.so_far)
+    rw (p.1, p.2) (λ text. ends _ c.args.count c.loop.counter c.loop.items c.loop.parameters _ c.loop-test.true fails c.loop.invariant.so_far)
 
 pub loop-preserved : goal.loop-preserved
 loop-preserved c =
@@ -28,7 +28,7 @@ loop-preserved c =
     })
 
 pub returns-then-trees-ne1-clause-value : goal.returns-then-trees-ne1-clause-value
-returns-then-trees-ne1-clause-value c = is_left c.args.count c.loop.counter c.loop.items c.loop.parameters _ c.loop-test.false (λ one. c.if-trees-ne1.true (c.loop.invariant.at_hand ∙ one)) c.loop.invariant.so_far
+returns-then-trees-ne1-clause-value c text = is_left c.args.count c.loop.counter c.loop.items c.loop.parameters _ c.loop-test.false (λ one. c.if-trees-ne1.true (c.loop.invariant.at_hand ∙ one)) c.loop.invariant.so_far
 
 pub returns : goal.returns
 returns c =
