@@ -1,7 +1,7 @@
 #!/usr/bin/env python3
 """make_mixed.py [--entities N] [--points M] [--kinds K,K,..] [--seed S] > FILE
 
-Writes an IGES file of N entities and behind it M point questions, one a line: `@1 point E X Y Z`. The
+Writes an IGES file of N entities and after it M point questions, one a line: `@1 point E X Y Z`. The
 entities are primitives of the kinds that are named (block, wedge, cylinder, cone, sphere, torus,
 ellipsoid; all seven where none is), with axes that aren't along the coordinates. The same seed gives the
 same bytes.

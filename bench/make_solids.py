@@ -1,15 +1,18 @@
 #!/usr/bin/env python3
 """make_solids.py [--shape SHAPE] [--entities N] [--points M] [--seed S] > FILE
 
-Writes an IGES file of N entities that name each other, all by the rules of solidd, and behind it M point
+Writes an IGES file of N entities that name each other, all by the rules of solidd, and after it M point
 questions, one a line: `@1 point E X Y Z`. The shapes:
 
   mixed   primitives, matrices, Boolean trees, assemblies, instances and entities that aren't read, with
           points on all solids (the default)
   tree    one Boolean tree of N primitives of all kinds, each moved by a matrix, with points on the tree
-  chain   instances of which each names the one behind it, too deep for solidd from 65 on
+  chain   instances of which each names the one after it, too deep for solidd from 65 on
   star    one assembly of N spheres
   dense   Boolean trees over the same spheres, ten operands each
+  heavy   Boolean trees of which each names the one before twice, too heavy for solidd from 22 on
+  turned  a unit sphere that a chain of N - 1 matrices moves, whose entries are thirds and two thirds;
+          examples/turned.igs is its file of 61 entities
 
 The same seed gives the same bytes.
 """
@@ -151,7 +154,23 @@ def dense(rng, model, entities):
     return {}
 
 
-SHAPES = {"mixed": mixed, "tree": tree, "chain": chain, "star": star, "dense": dense}
+def heavy(rng, model, entities):
+    last = model.add(158, 0, "158,1.0;")
+    while len(model.entities) < entities:
+        last = model.add(180, 0, "180,3,-%d,-%d,1;" % (last, last))
+    return {}
+
+
+def turned(rng, model, entities):
+    one, two = "0.333333333333", "0.666666666667"
+    record = "124,-%s,%s,%s,0.0,%s,-%s,%s,0.0,%s,%s,-%s,0.0;" % (one, two, two, two, one, two, two, two, one)
+    for i in range(entities - 1):
+        model.add(124, 2 * i - 1 if i else 0, record)
+    model.add(158, 2 * entities - 3 if entities > 1 else 0, "158,1.0;")
+    return {}
+
+
+SHAPES = {"mixed": mixed, "tree": tree, "chain": chain, "star": star, "dense": dense, "heavy": heavy, "turned": turned}
 
 
 def main():

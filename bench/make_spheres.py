@@ -1,7 +1,7 @@
 #!/usr/bin/env python3
 """make_spheres.py [--spheres N] [--points M] [--seed S] > FILE
 
-Writes an IGES file of N spheres (IGES 5.3, type 158) and behind it M point questions, one a line:
+Writes an IGES file of N spheres (IGES 5.3, type 158) and after it M point questions, one a line:
 `@1 point E X Y Z`. About half of the points lie inside their sphere and half outside it; a few touch
 its surface, and a few ask for a number that no sphere has. The same seed gives the same bytes.
 """
@@ -10,7 +10,7 @@ import random
 import sys
 
 UNIT = 10**12  # steps
-PLACES = (1,) * 8 + (2,) * 6 + (3,) * 4 + (6, 12)  # how many digits may stand behind the point
+PLACES = (1,) * 8 + (2,) * 6 + (3,) * 4 + (6, 12)  # how many digits may stand after the point
 
 
 def spell(steps):
