@@ -4,7 +4,8 @@
 Times PROGRAM on generated inputs, turn by turn with another program that gives the same answers, the
 yardstick. Prints for each input both programs' best processor time (user and system), their peak memory
 and the ratios. Fails where an output or a status differs. With no yardstick there, times PROGRAM alone.
-The path of the yardstick comes from --yardstick, else from SOLIDD_YARDSTICK.
+The path of the yardstick comes from --yardstick, else from SOLIDD_YARDSTICK. It is run as
+`yardstick --stage 6 --engine plain COMMAND`, so that it evaluates each question anew and skips no operand.
 """
 import argparse
 import filecmp
@@ -84,7 +85,7 @@ def time_input(folder, args, name, command, maker, options):
     program = Timing("solidd", [os.path.abspath(args.program), command])
     yardstick = None
     if os.access(args.yardstick, os.X_OK):
-        yardstick = Timing("yardstick", [os.path.abspath(args.yardstick), "--stage", "4", "--engine", "plain", command])
+        yardstick = Timing("yardstick", [os.path.abspath(args.yardstick), "--stage", "6", "--engine", "plain", command])
     problem = compare(folder, program, yardstick, args.runs)
     print("%s, %.1f MB, best of %d" % (name, os.path.getsize(data) / 1e6, args.runs))
     if problem is not None:
