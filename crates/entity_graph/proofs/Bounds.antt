@@ -2,9 +2,9 @@
 use Rattle.std.proofs.Common.{◌≡◌, ℕ, suc, ◌+◌, ◌*◌, ◌/◌, ◌<◌, ◌≤◌, inl, inr, List, get_or, length, min, ap, ◌∙◌, arith}
 use Rattle.solid_base.specs.declared.entities.Entity.{Entity}
 use Rattle.solid_base.specs.declared.solids.Row.TheVariants as row
-use Rattle.solid_base.specs.References.{row_at, references_of, references}
+use Rattle.solid_base.specs.References.{HasNumber, row_at, references_of, references}
 use Rattle.solid_base.specs.Graph.{greatest, row_weight, depth_of, weight_of, most_levels, most_weight}
-use Rattle.entity_graph.specs.FirstFaults.{IsNumber, AreShallow, IsFirstRow}
+use Rattle.entity_graph.specs.FirstFaults.{AreShallow, IsFirstRow}
 use Rattle.entity_graph.specs.Tables.{entry}
 use Rattle.entity_graph.proofs.Numbers.{is_number, number_of}
 use Rattle.entity_graph.proofs.Levels.{depth_step, no_levels}
@@ -21,7 +21,7 @@ module _ (rows : List Entity) where
   null_weight shallow e z = (no_levels rows shallow e).weight ∙ ap (row_weight (weight_of rows)) z
 
   module _ (most : ℕ) (value : ℕ → ℕ) (table : List ℕ) (size : length table ≡ length rows) (null : (e : ℕ) → row_at rows e ≡ row.Null → value e ≤ most)
-      (right : (e : ℕ) → IsNumber rows e → entry table e ≡ min (suc most) (value e)) where
+      (right : (e : ℕ) → HasNumber rows e → entry table e ≡ min (suc most) (value e)) where
     pub none_above : ((i : ℕ) → i < length table → get_or table i 0 ≤ most) → (e : ℕ) → value e ≤ most
     none_above h e = elim (is_number rows e) [
       | inl n ↦ (let r = right e n in let k = n.1 in let b = h (e / 2) (omega arith) in omega arith)
@@ -41,7 +41,7 @@ module _ (rows : List Entity) where
       ];
     }
 
-    pub entry_value : ((e : ℕ) → value e ≤ most) → (e : ℕ) → IsNumber rows e → entry table e ≡ value e
+    pub entry_value : ((e : ℕ) → value e ≤ most) → (e : ℕ) → HasNumber rows e → entry table e ≡ value e
     entry_value h e n = let r = right e n in let b = h e in omega arith
 
 pub depth_most : (rows : List Entity) (e : ℕ) → depth_of rows e ≤ suc most_levels
@@ -53,5 +53,5 @@ depth_null rows e z = let n = null_depth rows e z in omega arith
 pub weight_null : (rows : List Entity) → AreShallow rows → (e : ℕ) → row_at rows e ≡ row.Null → weight_of rows e ≤ most_weight
 weight_null rows shallow e z = let n = null_weight rows shallow e z in omega arith
 
-pub depth_capped : (rows : List Entity) (table : List ℕ) → ((e : ℕ) → IsNumber rows e → entry table e ≡ depth_of rows e) → (e : ℕ) → IsNumber rows e → entry table e ≡ min (suc most_levels) (depth_of rows e)
+pub depth_capped : (rows : List Entity) (table : List ℕ) → ((e : ℕ) → HasNumber rows e → entry table e ≡ depth_of rows e) → (e : ℕ) → HasNumber rows e → entry table e ≡ min (suc most_levels) (depth_of rows e)
 depth_capped rows table right e n = let r = right e n in let d = depth_most rows e in omega arith

@@ -2,9 +2,10 @@
 use Rattle.std.proofs.Common.{◌≡◌, ℕ, zero, suc, ◌+◌, ◌*◌, ◌/◌, ◌<◌, List, [], ◌∷◌, get_or, length, map, refl, sym, ap, ◌∙◌, subst, arith}
 use Rattle.std.proofs.lemmas.List.{length-map}
 use Rattle.solid_base.specs.declared.entities.Entity.{Entity}
-use Rattle.solid_base.specs.References.{target, Reference, Refers, Reaches, here, further}
+use Rattle.solid_base.specs.declared.references.Reference.{Reference}
+use Rattle.solid_base.specs.References.{HasNumber, target, Refers, Reaches, here, further}
 use Rattle.solid_base.specs.Graph.{ReachesCycle}
-use Rattle.entity_graph.specs.FirstFaults.{IsNumber, ArePresent, AreAcyclic, IsFirstRow}
+use Rattle.entity_graph.specs.FirstFaults.{ArePresent, AreAcyclic, IsFirstRow}
 use Rattle.entity_graph.specs.Links.{references_at, place_of, places}
 use Rattle.entity_graph.specs.Order.{Names, Goes, stay, go, Rings}
 use Rattle.entity_graph.proofs.Numbers.{number_is, place_in, names_place, refers_from, refers_to}
@@ -45,7 +46,7 @@ module _ (rows : List Entity) (present : ArePresent rows) where
       let w : n.at < length (map target rs) = omega arith in
       let c = get_or (map target rs) n.at 0 in
       let half : c / 2 ≡ j = sym (half_at rs n.at 0 inside) ∙ sym (ap (λ (x : List ℕ). get_or x n.at 0) q) ∙ n.is in
-      let number : IsNumber rows c = refers_to rows present (2 * i + 1) c (n.at, w, same_at (map target rs) n.at c 0 w) in
+      let number : HasNumber rows c = refers_to rows present (2 * i + 1) c (n.at, w, same_at (map target rs) n.at c 0 w) in
       let is : c ≡ 2 * j + 1 = sym (number_is rows c number) ∙ ap (λ k. 2 * k + 1) half in
       (n.at, w, same_at (map target rs) n.at (2 * j + 1) 0 w ∙ is)
 
@@ -83,9 +84,9 @@ module _ (rows : List Entity) (present : ArePresent rows) where
         back = reaches_goes r.next r.on (r.next / 2) (sym (number_is rows r.next next)) r.back;
       }
 
-  cycle_number : (e : ℕ) → ReachesCycle rows e → IsNumber rows e
+  cycle_number : (e : ℕ) → ReachesCycle rows e → HasNumber rows e
   cycle_number e r = first e r.on r.reached (refers_from rows r.on r.next r.refers) where
-    first : (e k : ℕ) → Reaches rows e k → IsNumber rows k → IsNumber rows e
+    first : (e k : ℕ) → Reaches rows e k → HasNumber rows k → HasNumber rows e
     first e k here n = n
     first e k (further {c = c} m w) n = refers_from rows e c m
 

@@ -1,14 +1,13 @@
 -- The first reference that breaks a rule, within a row and row by row.
-use Rattle.std.proofs.Common.{◌≡◌, ℕ, suc, ◌+◌, ◌*◌, ◌<◌, ◌≤◌, inl, inr, List, [], ◌∷◌, ◌++◌, Some, None, length, map, take, drop, refl, sym, ap, ◌∙◌, subst, arith}
+use Rattle.std.proofs.Common.{◌≡◌, ℕ, suc, ◌+◌, ◌*◌, ◌<◌, ◌≤◌, inl, inr, List, [], ◌∷◌, ◌++◌, Some, None, length, take, drop, refl, sym, ap, ◌∙◌, subst, arith}
 use Rattle.std.specs.Prelude.{slice_get, Option, MatchOption}
 use Rattle.std.proofs.lemmas.Bool.{cases_lt}
-use Rattle.std.proofs.lemmas.List.{map-append}
 use Rattle.solid_base.specs.declared.entities.Entity.{Entity}
 use Rattle.solid_base.specs.declared.solids.Row.TheVariants as row
-use Rattle.solid_base.specs.References.{Reference, target, references_of, row_at}
-use Rattle.entity_graph.specs.declared.links.Link.{Link}
+use Rattle.solid_base.specs.declared.references.Reference.{Reference}
+use Rattle.solid_base.specs.References.{target, references_of, row_at}
 use Rattle.entity_graph.specs.FirstFaults.{HasNo, IsFirst}
-use Rattle.entity_graph.specs.Links.{reference, references_at}
+use Rattle.entity_graph.specs.Links.{references_at}
 use Rattle.entity_graph.specs.Rules.{HoldsOfNone, IsFirstIn}
 use Rattle.entity_graph.proofs.Numbers.{is_number}
 use Rattle.entity_graph.proofs.Steps.{take_step, split_step}
@@ -18,17 +17,15 @@ module _ (bad : Reference → Type 0) where
   none_append [] ys h k = k
   none_append (x ∷ xs) ys h k = (h.0, none_append xs ys h.1 k)
 
-  pub none_more : (links : List Link) (i : ℕ) (x : Link) → slice_get links i ≡ Some x → HoldsOfNone bad (map reference (take i links)) → ¬ bad (reference x) → HoldsOfNone bad (map reference (take (i + 1) links))
-  none_more links i x s h n =
-      let e : map reference (take (i + 1) links) ≡ map reference (take i links) ++ reference x ∷ [] = ap (map reference) (take_step links i (i + 1) x refl s) ∙ map-append reference (take i links) (x ∷ []) in
-      subst (HoldsOfNone bad) (sym e) (none_append (map reference (take i links)) (reference x ∷ []) h (n, tt))
+  pub none_more : (rs : List Reference) (i : ℕ) (x : Reference) → slice_get rs i ≡ Some x → HoldsOfNone bad (take i rs) → ¬ bad x → HoldsOfNone bad (take (i + 1) rs)
+  none_more rs i x s h n = subst (HoldsOfNone bad) (sym (take_step rs i (i + 1) x refl s)) (none_append (take i rs) (x ∷ []) h (n, tt))
 
-  pub first_here : (links : List Link) (i : ℕ) (x : Link) (to : ℕ) → slice_get links i ≡ Some x → HoldsOfNone bad (map reference (take i links)) → bad (reference x) → to ≡ target (reference x) → IsFirstIn bad (map reference links) to
-  first_here links i x to s h b t = record {
-    front = map reference (take i links);
-    named = reference x;
-    rest = map reference (drop (suc i) links);
-    stands = ap (map reference) (split_step links i x s) ∙ map-append reference (take i links) (x ∷ drop (suc i) links);
+  pub first_here : (rs : List Reference) (i : ℕ) (x : Reference) (to : ℕ) → slice_get rs i ≡ Some x → HoldsOfNone bad (take i rs) → bad x → to ≡ target x → IsFirstIn bad rs to
+  first_here rs i x to s h b t = record {
+    front = take i rs;
+    named = x;
+    rest = drop (suc i) rs;
+    stands = split_step rs i x s;
     before = h;
     holds = b;
     names = sym t;

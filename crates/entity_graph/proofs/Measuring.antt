@@ -2,9 +2,9 @@
 use Rattle.std.proofs.Common.{◌≡◌, ℕ, suc, ◌+◌, ◌*◌, ◌/◌, ◌<◌, ◌≤◌, inl, inr, List, get_or, set, length, sym, ap, ◌∙◌, subst, arith, get_or-set_other, get_or-set_same}
 use Rattle.std.proofs.lemmas.Bool.{cases_lt, cases_eq}
 use Rattle.solid_base.specs.declared.entities.Entity.{Entity}
-use Rattle.solid_base.specs.References.{references, row_at, Refers}
+use Rattle.solid_base.specs.References.{HasNumber, references, row_at, Refers}
 use Rattle.solid_base.specs.Graph.{depth_of, weight_of, most_weight}
-use Rattle.entity_graph.specs.FirstFaults.{IsNumber, ArePresent}
+use Rattle.entity_graph.specs.FirstFaults.{ArePresent}
 use Rattle.entity_graph.specs.Links.{places}
 use Rattle.entity_graph.specs.Order.{IsWhole}
 use Rattle.entity_graph.specs.Tables.{entry}
@@ -51,7 +51,7 @@ module _ (rows : List Entity) where
         ]
 
     -- where all rows were measured each entry is right
-    pub all_right : (i : ℕ) → length order ≤ i → ((j : ℕ) → j < i → Right m rows (2 * get_or order j 0 + 1) (get_or table (get_or order j 0) 0)) → (e : ℕ) → IsNumber rows e → Right m rows e (entry table e)
+    pub all_right : (i : ℕ) → length order ≤ i → ((j : ℕ) → j < i → Right m rows (2 * get_or order j 0 + 1) (get_or table (get_or order j 0) 0)) → (e : ℕ) → HasNumber rows e → Right m rows e (entry table e)
     all_right i h right e k =
         let b = whole.all (e / 2) (let a = k.1 in let n = places_length rows in omega arith) in
         let q : 2 * get_or order b.at 0 + 1 ≡ e = ap (λ p. 2 * p + 1) b.is ∙ number_is rows e k in

@@ -5,9 +5,9 @@ use Rattle.std.proofs.Math.Seq.{take-length}
 use Rattle.std.proofs.lemmas.Grind.{get_or_default_zero}
 use Rattle.std.proofs.lemmas.List.{length-map, map-append}
 use Rattle.solid_base.specs.declared.entities.Entity.{Entity}
-use Rattle.solid_base.specs.References.{Reference, references_of}
-use Rattle.entity_graph.specs.declared.links.Link.{Link}
-use Rattle.entity_graph.specs.Links.{reference, references_at, parts, start_of, AreEnds, AreLinks}
+use Rattle.solid_base.specs.declared.references.Reference.{Reference}
+use Rattle.solid_base.specs.References.{references_of}
+use Rattle.entity_graph.specs.Links.{references_at, parts, start_of, AreEnds, AreLinks}
 use Rattle.entity_graph.proofs.Numbers.{references_place}
 use Rattle.entity_graph.proofs.Steps.{take_step}
 
@@ -47,21 +47,18 @@ ends_push : (from : ℕ) (ends : List ℕ) (size more : ℕ) → AreEnds from en
 ends_push from [] size more h l = (omega arith, refl)
 ends_push from (end ∷ ends) size more h l = (h.0, ends_push end ends size more h.1 l)
 
-pub record AreFront (rows : List Entity) (items : List Link) (ends : List ℕ) (place : ℕ) : Type 0 where
+pub record AreFront (rows : List Entity) (items : List Reference) (ends : List ℕ) (place : ℕ) : Type 0 where
   pub ordered : AreEnds 0 ends (length items)
-  pub are : parts (map reference items) 0 ends ≡ map (λ entity. references_of entity.row) (take place rows)
+  pub are : parts items 0 ends ≡ map (λ entity. references_of entity.row) (take place rows)
 
-pub front_more : (rows : List Entity) (items more : List Link) (ends new : List ℕ) (place : ℕ) (entity : Entity) → AreFront rows items ends place
-    → slice_get rows place ≡ Some entity → map reference more ≡ map reference items ++ references_of entity.row → new ≡ ends ++ length more ∷ [] → AreFront rows more new (place + 1)
+pub front_more : (rows : List Entity) (items more : List Reference) (ends new : List ℕ) (place : ℕ) (entity : Entity) → AreFront rows items ends place
+    → slice_get rows place ≡ Some entity → more ≡ items ++ references_of entity.row → new ≡ ends ++ length more ∷ [] → AreFront rows more new (place + 1)
 front_more rows items more ends new place entity f s m n =
-    let a = length-map items reference in
-    let b = length-map more reference in
-    let c : length (map reference items ++ references_of entity.row) ≡ length more = ap length (sym m) ∙ b in
-    let d = length-append (map reference items) (references_of entity.row) in
-    let o : AreEnds 0 ends (length (map reference items)) = subst (λ k. AreEnds 0 ends k) (sym a) f.ordered in
-    let p = parts_push (map reference items) (references_of entity.row) 0 ends o in
+    let c = ap length m in
+    let d = length-append items (references_of entity.row) in
+    let p = parts_push items (references_of entity.row) 0 ends f.ordered in
     let t = take_step rows place (place + 1) entity refl s in
-    let e : parts (map reference more) 0 new ≡ parts (map reference items ++ references_of entity.row) 0 (ends ++ length (map reference items ++ references_of entity.row) ∷ []) = rw (n, m, c) refl in
+    let e : parts more 0 new ≡ parts (items ++ references_of entity.row) 0 (ends ++ length (items ++ references_of entity.row) ∷ []) = rw (n, m) refl in
     let g : map (λ entity. references_of entity.row) (take (place + 1) rows) ≡ map (λ entity. references_of entity.row) (take place rows) ++ references_of entity.row ∷ [] =
     ap (map (λ entity. references_of entity.row)) t ∙ map-append (λ entity. references_of entity.row) (take place rows) (entity ∷ []) in
     record {
@@ -90,42 +87,31 @@ parts_length : (items : List Reference) (from : ℕ) (ends : List ℕ) → lengt
 parts_length items from [] = refl
 parts_length items from (end ∷ ends) = ap suc (parts_length items end ends)
 
-pub links_length : (rows : List Entity) (items : List Link) (ends : List ℕ) → AreLinks rows items ends → length ends ≡ length rows
-links_length rows items ends a = sym (parts_length (map reference items) 0 ends) ∙ ap length a.are ∙ length-map rows (λ entity. references_of entity.row)
+pub links_length : (rows : List Entity) (items : List Reference) (ends : List ℕ) → AreLinks rows items ends → length ends ≡ length rows
+links_length rows items ends a = sym (parts_length items 0 ends) ∙ ap length a.are ∙ length-map rows (λ entity. references_of entity.row)
 
-pub links_at : (rows : List Entity) (items : List Link) (ends : List ℕ) (p start end : ℕ) → AreLinks rows items ends → p < length rows → start ≡ start_of 0 ends p → end ≡ get_or ends p 0
-    → IsPart (map reference items) (references_at rows p) start end
+pub links_at : (rows : List Entity) (items : List Reference) (ends : List ℕ) (p start end : ℕ) → AreLinks rows items ends → p < length rows → start ≡ start_of 0 ends p → end ≡ get_or ends p 0
+    → IsPart items (references_at rows p) start end
 links_at rows items ends p start end a h s t =
     let n = links_length rows items ends a in
-    let o : AreEnds 0 ends (length (map reference items)) = subst (λ k. AreEnds 0 ends k) (sym (length-map items reference)) a.ordered in
-    let r = part_at (map reference items) 0 ends p o (omega arith) in
-    let q : get_or (parts (map reference items) 0 ends) p [] ≡ references_at rows p = ap (λ (l : List (List Reference)). get_or l p []) a.are ∙ references_place rows p in
-    rw (s, t) (subst (λ l. IsPart (map reference items) l (start_of 0 ends p) (get_or ends p 0)) q r)
+    let r = part_at items 0 ends p a.ordered (omega arith) in
+    let q : get_or (parts items 0 ends) p [] ≡ references_at rows p = ap (λ (l : List (List Reference)). get_or l p []) a.are ∙ references_place rows p in
+    rw (s, t) (subst (λ l. IsPart items l (start_of 0 ends p) (get_or ends p 0)) q r)
 
-pub row_part : (rows value : List Entity) (items : List Link) (ends read : List ℕ) (p start end : ℕ) → AreLinks rows items ends → rows ≡ value → p < length value
-    → start ≡ start_of 0 read p → read ≡ ends → end ≡ get_or ends p end → IsPart (map reference items) (references_at value p) start end
+pub row_part : (rows value : List Entity) (items : List Reference) (ends read : List ℕ) (p start end : ℕ) → AreLinks rows items ends → rows ≡ value → p < length value
+    → start ≡ start_of 0 read p → read ≡ ends → end ≡ get_or ends p end → IsPart items (references_at value p) start end
 row_part rows value items ends read p start end a v h s r t =
     let n = links_length rows items ends a in
     let m = ap length v in
     let k : p < length ends = omega arith in
-    subst (λ x. IsPart (map reference items) (references_at x p) start end) v (links_at rows items ends p start end a (omega arith) (s ∙ ap (λ (l : List ℕ). start_of 0 l p) r) (t ∙ get_or_default_zero ends p end k))
+    subst (λ x. IsPart items (references_at x p) start end) v (links_at rows items ends p start end a (omega arith) (s ∙ ap (λ (l : List ℕ). start_of 0 l p) r) (t ∙ get_or_default_zero ends p end k))
 
-pub row_in : (rows value : List Entity) (items : List Link) (ends read : List ℕ) (p : ℕ) → AreLinks rows items ends → rows ≡ value → p < length value → read ≡ ends → p < length read
+pub row_in : (rows value : List Entity) (items : List Reference) (ends read : List ℕ) (p : ℕ) → AreLinks rows items ends → rows ≡ value → p < length value → read ≡ ends → p < length read
 row_in rows value items ends read p a v h r =
     let n = links_length rows items ends a in
     let m = ap length v in
     let k = ap length r in
     omega arith
 
-pub row_is : (items part read : List Link) (refs : List Reference) (start end : ℕ) → IsPart (map reference items) refs start end → read ≡ items → part ≡ take (end - start) (drop start read) → map reference part ≡ refs
-row_is items part read refs start end k r e =
-    ap (map reference) (e ∙ ap (λ (l : List Link). take (end - start) (drop start l)) r) ∙ map_part (end - start) start items ∙ sym k.is where
-      map_take : (n : ℕ) (xs : List Link) → map reference (take n xs) ≡ take n (map reference xs)
-      map_take zero xs = refl
-      map_take (suc n) [] = refl
-      map_take (suc n) (x ∷ xs) = ap (λ (l : List Reference). reference x ∷ l) (map_take n xs)
-
-      map_part : (n m : ℕ) (xs : List Link) → map reference (take n (drop m xs)) ≡ take n (drop m (map reference xs))
-      map_part n zero xs = map_take n xs
-      map_part n (suc m) [] = map_take n []
-      map_part n (suc m) (x ∷ xs) = map_part n m xs
+pub row_is : (items part read : List Reference) (refs : List Reference) (start end : ℕ) → IsPart items refs start end → read ≡ items → part ≡ take (end - start) (drop start read) → part ≡ refs
+row_is items part read refs start end k r e = e ∙ ap (λ (l : List Reference). take (end - start) (drop start l)) r ∙ sym k.is

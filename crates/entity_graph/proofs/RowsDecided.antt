@@ -5,7 +5,9 @@ use Rattle.std.proofs.lemmas.Option.{slice_get_past}
 use Rattle.solid_base.specs.declared.entities.Entity.{Entity}
 use Rattle.solid_base.specs.declared.solids.Row.{Row}
 use Rattle.solid_base.specs.declared.solids.Row.TheVariants as row
-use Rattle.solid_base.specs.References.{row_or_null, row_at, Reference, to_matrix, to_solid, target, references_of, references, Refers}
+use Rattle.solid_base.specs.declared.references.Reference.{Reference}
+use Rattle.solid_base.specs.declared.references.Reference.TheVariants as reference
+use Rattle.solid_base.specs.References.{row_or_null, row_at, target, references_of, references, Refers}
 use Rattle.solid_base.specs.Graph.{IsDangling, IsMatrix, IsMisdirected}
 use Rattle.entity_graph.specs.Opaque.{IsOpaque}
 use Rattle.entity_graph.proofs.Decided.{Decided, not_decided, contains_decided}
@@ -44,8 +46,8 @@ dangling_decided rows r = null_decided (row_at rows (target r))
 
 -- a reference leads to a row of its kind or not
 pub misdirected_decided : (rows : List Entity) (r : Reference) → Decided (IsMisdirected rows r)
-misdirected_decided rows (to_matrix number) = not_decided (IsMatrix (row_at rows number)) (matrix_decided (row_at rows number))
-misdirected_decided rows (to_solid number) = matrix_decided (row_at rows number)
+misdirected_decided rows (reference.Matrix number) = not_decided (IsMatrix (row_at rows number)) (matrix_decided (row_at rows number))
+misdirected_decided rows (reference.Solid number) = matrix_decided (row_at rows number)
 
 -- a row names a number or not
 pub refers_decided : (rows : List Entity) (e c : ℕ) → Decided (Refers rows e c)

@@ -6,7 +6,8 @@ use Rattle.std.proofs.lemmas.List.Sums.{sum_by-cons}
 use Rattle.std.proofs.lemmas.List.Elements.{Contains-append_left, Contains-append_right}
 use Rattle.solid_base.specs.declared.solids.Row.{Row}
 use Rattle.solid_base.specs.declared.solids.Row.TheVariants as row
-use Rattle.solid_base.specs.References.{to_solid, target, matrix_named, operands_of, items_of, matrices_of, references_of, references}
+use Rattle.solid_base.specs.declared.references.Reference.TheVariants as reference
+use Rattle.solid_base.specs.References.{target, matrix_named, operands_of, items_of, matrices_of, references_of, references}
 use Rattle.solid_base.specs.Graph.{greatest, row_weight}
 
 -- ---- members
@@ -81,7 +82,7 @@ counted_named (row.Assembly items matrix) c h =
     (Contains-append_right (map target (matrix_named matrix)) (map target (items_of items ++ matrices_of items)) c
     (subst (λ (l : List ℕ). Contains l c) (sym d) (Contains-append_left (map target (items_of items)) (map target (matrices_of items)) c h)))
 counted_named (row.Instance child matrix) c h =
-    let e = map-append target (matrix_named matrix) (to_solid child ∷ []) in
+    let e = map-append target (matrix_named matrix) (reference.Solid child ∷ []) in
     subst (λ (l : List ℕ). Contains l c) (sym e) (Contains-append_right (map target (matrix_named matrix)) (child ∷ []) c h)
 
 sum_capped : (cap : ℕ) (f g : ℕ → ℕ) (ns : List ℕ) (b : ℕ) → ((c : ℕ) → Contains ns c → min cap (f c) ≡ min cap (g c)) → min cap (b + sum_by f ns) ≡ min cap (b + sum_by g ns)

@@ -1,15 +1,16 @@
 -- The first fault of a model's references: kind by kind, within a kind row by row, within a row reference by reference.
-use Rattle.std.specs.Prelude.{◌≡◌, ℕ, ◌≤◌, ◌<◌, ◌%◌, ◌/◌, List, ◌∷◌, ◌++◌, length}
+use Rattle.std.specs.Prelude.{◌≡◌, ℕ, ◌≤◌, ◌<◌, List, ◌∷◌, ◌++◌}
 use Rattle.std.specs.List.{AllByRecursion}
 use Rattle.solid_base.specs.declared.entities.Entity.{Entity}
-use Rattle.solid_base.specs.References.{Reference, target, references_of, row_at}
+use Rattle.solid_base.specs.declared.references.Reference.{Reference}
+use Rattle.solid_base.specs.References.{HasNumber, target, references_of, row_at}
 use Rattle.solid_base.specs.Graph.{IsDangling, IsMisdirected, ReachesCycle, depth_of, most_levels, weight_of, most_weight}
 use Rattle.entity_graph.specs.declared.graph_faults.GraphFault.{GraphFault}
 use Rattle.entity_graph.specs.declared.graph_faults.GraphFault.TheVariants as fault
 
--- IGES 5.3, 2.2.4.4: the number of an entity is that of its first directory line, which is odd
+-- some entity has the number
 abbrev pub IsNumber : List Entity → ℕ → Type 0
-IsNumber rows e = (e % 2 ≡ 1) × (e / 2 < length rows)
+IsNumber rows e = HasNumber rows e
 
 -- ---- rules that hold of all rows
 

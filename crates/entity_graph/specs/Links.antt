@@ -1,14 +1,8 @@
 -- solidd's own: the references of all rows, read once into one list.
 use Rattle.std.specs.Prelude.{◌≡◌, ℕ, ◌-◌, ◌≤◌, ◌*◌, ◌+◌, ◌/◌, zero, suc, List, [], ◌∷◌, map, take, drop, length, slice_index_or}
 use Rattle.solid_base.specs.declared.entities.Entity.{Entity}
-use Rattle.solid_base.specs.References.{Reference, to_matrix, to_solid, target, references_of, row_at}
-use Rattle.entity_graph.specs.declared.links.Link.{Link}
-use Rattle.entity_graph.specs.declared.links.Link.TheVariants as link
-
--- the reference that a link is
-abbrev pub reference : Link → Reference
-reference (link.Matrix number) = to_matrix number
-reference (link.Solid number) = to_solid number
+use Rattle.solid_base.specs.declared.references.Reference.{Reference}
+use Rattle.solid_base.specs.References.{target, references_of, row_at}
 
 -- the references of the row at a place
 abbrev pub references_at : List Entity → ℕ → List Reference
@@ -37,7 +31,7 @@ abbrev pub AreEnds : ℕ → List ℕ → ℕ → Type 0
 AreEnds from [] size = from ≡ size
 AreEnds from (end ∷ ends) size = (from ≤ end) × AreEnds end ends size
 
--- the parts of the list of links are the references of the rows
-pub record AreLinks (rows : List Entity) (items : List Link) (ends : List ℕ) : Type 0 where
+-- the parts of the list are the references of the rows
+pub record AreLinks (rows : List Entity) (items : List Reference) (ends : List ℕ) : Type 0 where
   pub ordered : AreEnds 0 ends (length items)
-  pub are : parts (map reference items) 0 ends ≡ map (λ entity. references_of entity.row) rows
+  pub are : parts items 0 ends ≡ map (λ entity. references_of entity.row) rows

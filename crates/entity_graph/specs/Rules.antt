@@ -2,7 +2,8 @@
 use Rattle.std.specs.Prelude.{◌≡◌, ℕ, List, ◌∷◌, ◌++◌}
 use Rattle.std.specs.List.{AllByRecursion}
 use Rattle.solid_base.specs.declared.entities.Entity.{Entity}
-use Rattle.solid_base.specs.References.{Reference, target}
+use Rattle.solid_base.specs.declared.references.Reference.{Reference}
+use Rattle.solid_base.specs.References.{target}
 use Rattle.solid_base.specs.Graph.{IsDangling, IsMisdirected}
 use Rattle.entity_graph.specs.declared.rules.Rule.{Rule}
 use Rattle.entity_graph.specs.declared.rules.Rule.TheVariants as rule

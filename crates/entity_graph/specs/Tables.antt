@@ -1,8 +1,8 @@
 -- solidd's own: the tables of a graph, with an entry for each row.
 use Rattle.std.specs.Prelude.{◌≡◌, ℕ, ◌≤◌, ◌/◌, List, length, slice_index_or}
 use Rattle.solid_base.specs.declared.entities.Entity.{Entity}
+use Rattle.solid_base.specs.References.{HasNumber}
 use Rattle.solid_base.specs.Graph.{AreSound, depth_of, weight_of, most_weight}
-use Rattle.entity_graph.specs.FirstFaults.{IsNumber}
 use Rattle.entity_graph.specs.Opaque.{IsFirstOpaque}
 
 -- the entry of the row with a number
@@ -19,6 +19,6 @@ pub record AreTables (rows : List Entity) (depths weights opaques : List ℕ) : 
   pub depths_length : length depths ≡ length rows
   pub weights_length : length weights ≡ length rows
   pub opaques_length : length opaques ≡ length rows
-  pub depth : (e : ℕ) → IsNumber rows e → entry depths e ≡ depth_of rows e
-  pub weight : (e : ℕ) → IsNumber rows e → entry weights e ≡ weight_of rows e
-  pub opaque : (e : ℕ) → IsNumber rows e → IsFirstOpaque rows e (entry opaques e)
+  pub depth : (e : ℕ) → HasNumber rows e → entry depths e ≡ depth_of rows e
+  pub weight : (e : ℕ) → HasNumber rows e → entry weights e ≡ weight_of rows e
+  pub opaque : (e : ℕ) → HasNumber rows e → IsFirstOpaque rows e (entry opaques e)

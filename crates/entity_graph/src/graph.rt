@@ -1,7 +1,8 @@
 ghost use Rattle.std.specs.Prelude.{◌≡◌, ◌≤◌, ℕ, length, IfOk, IfErr};
+ghost use Rattle.solid_base.specs.References.{HasNumber};
 ghost use Rattle.solid_base.specs.Graph.{AreSound, depth_of, weight_of};
 ghost use Rattle.entity_graph.specs.GraphFaults.{IsOfText};
-ghost use Rattle.entity_graph.specs.FirstFaults.{IsNumber, IsFault};
+ghost use Rattle.entity_graph.specs.FirstFaults.{IsFault};
 ghost use Rattle.entity_graph.specs.Opaque.{IsFirstOpaque};
 
 use crate::graph_faults::GraphFault;
@@ -69,7 +70,7 @@ impl Graph {
 
     /// The weight of the row with a number: how many evaluations of primitives it takes.
     pub fn weight(&self, e: u32) -> u64
-        requires { IsNumber self.now e }
+        requires { HasNumber self.now e }
         ensures { result ≡ weight_of self.now e }
     {
         self.weights[(e / 2) as usize] as u64
@@ -78,7 +79,7 @@ impl Graph {
     /// The depth of the row with a number: 1 where it names no other, else 1 more than the greatest depth
     /// of those that it names.
     pub fn depth(&self, e: u32) -> u64
-        requires { IsNumber self.now e }
+        requires { HasNumber self.now e }
         ensures { result ≡ depth_of self.now e }
     {
         self.depths[(e / 2) as usize] as u64
@@ -87,7 +88,7 @@ impl Graph {
     /// The least number of a row that isn't read, of those that the row with a number reaches, itself
     /// among them; 0 where it reaches none.
     pub fn opaque(&self, e: u32) -> u32
-        requires { IsNumber self.now e }
+        requires { HasNumber self.now e }
         ensures { IsFirstOpaque self.now e result }
     {
         self.opaques[(e / 2) as usize]

@@ -1,15 +1,14 @@
-ghost use Rattle.std.specs.Prelude.{◌≡◌, ◌↔◌, ℕ, ◌≤◌, map, length, IsTrue, MatchOption, IfOk, IfErr};
+ghost use Rattle.std.specs.Prelude.{◌≡◌, ◌↔◌, ℕ, ◌≤◌, length, IsTrue, MatchOption, IfOk, IfErr};
 ghost use Rattle.solid_base.specs.declared.solids.Row.TheVariants as row;
 ghost use Rattle.solid_base.specs.References.{row_at};
 ghost use Rattle.solid_base.specs.Graph.{IsMatrix};
-ghost use Rattle.entity_graph.specs.Links.{reference};
 ghost use Rattle.entity_graph.specs.FirstFaults.{HasNo, IsFirst, ArePresent, AreDirected, IsFault};
 ghost use Rattle.entity_graph.specs.Rules.{Breaks, HoldsOfNone, IsFirstIn};
 ghost use Rattle.entity_graph.specs.GraphFaults.{IsOfText};
 
 use crate::graph_faults::GraphFault;
-use crate::links::{Link, Links};
-use solid_base::{Row, Rows};
+use crate::links::Links;
+use solid_base::{Reference, Row, Rows};
 use std::alloc::Global;
 
 /// A rule on single references: the entity that is named stands there, or it is of the kind that is wanted.
@@ -38,25 +37,25 @@ fn is_matrix(rows: &Rows, number: u32) -> bool
 }
 
 impl Rule {
-    fn is_broken(self, rows: &Rows, link: Link) -> bool
-        ensures { IsTrue result ↔ Breaks rows.now self (reference link) }
+    fn is_broken(self, rows: &Rows, reference: Reference) -> bool
+        ensures { IsTrue result ↔ Breaks rows.now self reference }
     {
-        match (self, link) {
-            (Rule::Present, _) => is_null(rows, link.number()),
-            (Rule::Directed, Link::Matrix(number)) => !is_matrix(rows, number),
-            (Rule::Directed, Link::Solid(number)) => is_matrix(rows, number),
+        match (self, reference) {
+            (Rule::Present, _) => is_null(rows, reference.number()),
+            (Rule::Directed, Reference::Matrix(number)) => !is_matrix(rows, number),
+            (Rule::Directed, Reference::Solid(number)) => is_matrix(rows, number),
         }
     }
 
     /// The number that is named by the first of some references that breaks the rule.
-    fn first_in(self, rows: &Rows, links: &[Link]) -> Option<u32>
+    fn first_in(self, rows: &Rows, references: &[Reference]) -> Option<u32>
         ensures { MatchOption result
-            (HoldsOfNone (Breaks rows.now self) (map reference links.now))
-            (λ to. IsFirstIn (Breaks rows.now self) (map reference links.now) to) }
+            (HoldsOfNone (Breaks rows.now self) references.now)
+            (λ to. IsFirstIn (Breaks rows.now self) references.now to) }
     {
-        for link in links {
-            if self.is_broken(rows, *link) {
-                return Some(link.number());
+        for reference in references {
+            if self.is_broken(rows, *reference) {
+                return Some(reference.number());
             }
         }
         None

@@ -1,7 +1,8 @@
 ghost use Rattle.std.specs.Prelude.{◌≡◌, ◌≤◌, ℕ, length, IfOk, IfErr};
+ghost use Rattle.solid_base.specs.References.{HasNumber};
 ghost use Rattle.solid_base.specs.Graph.{depth_of, weight_of};
 ghost use Rattle.entity_graph.specs.GraphFaults.{IsOfText};
-ghost use Rattle.entity_graph.specs.FirstFaults.{IsNumber, ArePresent, AreDirected, AreAcyclic, AreShallow, IsFault};
+ghost use Rattle.entity_graph.specs.FirstFaults.{ArePresent, AreDirected, AreAcyclic, AreShallow, IsFault};
 ghost use Rattle.entity_graph.specs.Links.{places};
 ghost use Rattle.entity_graph.specs.Order.{IsWhole};
 ghost use Rattle.entity_graph.specs.Tables.{entry, AreLight};
@@ -9,7 +10,8 @@ ghost use Rattle.entity_graph.specs.Tables.{entry, AreLight};
 use crate::graph_faults::GraphFault;
 use crate::links::Links;
 use crate::search::find_order;
-use crate::tables::{MOST_LEVELS, MOST_WEIGHT, Measure, first_above, number_at};
+use crate::tables::{MOST_WEIGHT, Measure, first_above, number_at};
+use solid_base::MOST_LEVELS;
 use std::alloc::Global;
 
 /// The places of rows in an order in which what a row names comes before it. Cycle where there is none,
@@ -37,7 +39,7 @@ pub fn find_depths(alloc: Global, links: &Links, order: &[u32]) -> Result<Vec<u3
     requires acyclic { AreAcyclic links.now }
     requires whole { IsWhole (places links.now) order.now }
     ensures size { IfOk result (λ depths. length depths.items ≡ length links.now) }
-    ensures depths { IfOk result (λ depths. (e : ℕ) → IsNumber links.now e →
+    ensures depths { IfOk result (λ depths. (e : ℕ) → HasNumber links.now e →
         entry depths.items e ≡ depth_of links.now e) }
     ensures shallow { IfOk result (λ _. AreShallow links.now) }
     ensures first_fault { IfErr result (λ fault. IsOfText fault → IsFault links.now fault) }
@@ -59,7 +61,7 @@ pub fn find_weights(alloc: Global, links: &Links, order: &[u32]) -> Result<Vec<u
     requires shallow { AreShallow links.now }
     requires whole { IsWhole (places links.now) order.now }
     ensures size { IfOk result (λ weights. length weights.items ≡ length links.now) }
-    ensures weights { IfOk result (λ weights. (e : ℕ) → IsNumber links.now e →
+    ensures weights { IfOk result (λ weights. (e : ℕ) → HasNumber links.now e →
         entry weights.items e ≡ weight_of links.now e) }
     ensures light { IfOk result (λ _. AreLight links.now) }
     ensures first_fault { IfErr result (λ fault. IsOfText fault → IsFault links.now fault) }

@@ -1,18 +1,15 @@
 ghost use Rattle.std.specs.Prelude.{◌≡◌, ℕ, suc, ◌+◌, ◌*◌, ◌<◌, ◌≤◌, map, min, sum_by, length, slice_index_or, IfOk, MatchOption};
-ghost use Rattle.solid_base.specs.References.{target, row_at, operands_of, items_of};
+ghost use Rattle.solid_base.specs.References.{HasNumber, target, row_at, operands_of, items_of};
 ghost use Rattle.solid_base.specs.Graph.{greatest, row_weight, most_levels, most_weight};
-ghost use Rattle.entity_graph.specs.FirstFaults.{IsNumber, ArePresent};
-ghost use Rattle.entity_graph.specs.Links.{reference, places};
+ghost use Rattle.entity_graph.specs.FirstFaults.{ArePresent};
+ghost use Rattle.entity_graph.specs.Links.{places};
 ghost use Rattle.entity_graph.specs.Order.{IsWhole};
 ghost use Rattle.entity_graph.specs.Tables.{entry};
 ghost use Rattle.entity_graph.specs.Measures.{least, lesser, step, IsReady, Right};
 
-use crate::links::{Link, Links};
-use solid_base::{Item, Placed, Row};
+use crate::links::Links;
+use solid_base::{Item, MOST_LEVELS, Placed, Reference, Row};
 use std::alloc::{AllocError, Global};
-
-/// The most levels that a model may have.
-pub const MOST_LEVELS: u32 = 64;
 
 /// The greatest weight that an entity may have.
 pub const MOST_WEIGHT: u32 = 1 << 20;
@@ -37,12 +34,12 @@ fn entry(table: &[u32], number: u32) -> u32
 }
 
 /// The greatest entry of the rows that some references name.
-fn greatest_entry(table: &[u32], links: &[Link]) -> u32
-    ensures { result ≡ greatest (entry table.now) (map target (map reference links.now)) }
+fn greatest_entry(table: &[u32], references: &[Reference]) -> u32
+    ensures { result ≡ greatest (entry table.now) (map target references.now) }
 {
     let mut most = 0;
-    for link in links {
-        let next = entry(table, link.number());
+    for reference in references {
+        let next = entry(table, reference.number());
         if next > most {
             most = next;
         }
@@ -58,12 +55,12 @@ fn lesser(a: u32, b: u32) -> u32
 }
 
 /// The least entry but 0 of the rows that some references name.
-fn least_entry(table: &[u32], links: &[Link]) -> u32
-    ensures { result ≡ least (entry table.now) (map target (map reference links.now)) }
+fn least_entry(table: &[u32], references: &[Reference]) -> u32
+    ensures { result ≡ least (entry table.now) (map target references.now) }
 {
     let mut first = 0;
-    for link in links {
-        first = lesser(first, entry(table, link.number()));
+    for reference in references {
+        first = lesser(first, entry(table, reference.number()));
     }
     first
 }
@@ -158,7 +155,7 @@ impl Measure {
         requires ready { IsReady self links.now }
         requires whole { IsWhole (places links.now) order.now }
         ensures size { IfOk result (λ table. length table.items ≡ length links.now) }
-        ensures right { IfOk result (λ table. (e : ℕ) → IsNumber links.now e →
+        ensures right { IfOk result (λ table. (e : ℕ) → HasNumber links.now e →
             Right self links.now e (entry table.items e)) }
     {
         let mut table = Vec::from_elem(alloc, 0, links.len())?;

@@ -7,7 +7,9 @@ use Rattle.solid_base.specs.declared.solids.Item.TheVariants as item
 use Rattle.solid_base.specs.declared.solids.Placed.{Placed}
 use Rattle.solid_base.specs.declared.solids.Row.{Row}
 use Rattle.solid_base.specs.declared.solids.Row.TheVariants as row
-use Rattle.solid_base.specs.References.{Reference, to_solid, target, matrix_named, operands_of, items_of, matrices_of, references_of, references}
+use Rattle.solid_base.specs.declared.references.Reference.{Reference}
+use Rattle.solid_base.specs.declared.references.Reference.TheVariants as reference
+use Rattle.solid_base.specs.References.{target, matrix_named, operands_of, items_of, matrices_of, references_of, references}
 use Rattle.solid_base.specs.Trees.{Operation, union, intersection, difference}
 use Rattle.solid_eval.specs.Solids.{Solid, nothing, moved, entity, combined, on_two, grown, last_of, spelt, placed_item, united, row_solid}
 
@@ -66,4 +68,4 @@ module _ (chain other : ℕ → List Affine) (f g : ℕ → Solid) (none : chain
       same_moved e matrix (united chain f nothing items) (united other g nothing items) (same_matrix matrix (all_left Same (matrix_named matrix) (items_of items ++ matrices_of items) h))
       (same_united nothing items (all_left Same (items_of items) (matrices_of items) parts) (all_right Same (items_of items) (matrices_of items) parts))
   same_row e (row.Instance number matrix) h =
-      same_moved e matrix (f number) (g number) (same_matrix matrix (all_left Same (matrix_named matrix) (to_solid number ∷ []) h)) (all_right Same (matrix_named matrix) (to_solid number ∷ []) h).0.1
+      same_moved e matrix (f number) (g number) (same_matrix matrix (all_left Same (matrix_named matrix) (reference.Solid number ∷ []) h)) (all_right Same (matrix_named matrix) (reference.Solid number ∷ []) h).0.1

@@ -1,5 +1,6 @@
 use Rattle.std.proofs.Common.{suc, ◌+◌, ◌*◌, List, map, min, ap, sym, ◌∙◌}
-use Rattle.solid_base.specs.References.{Reference, row_at, target}
+use Rattle.solid_base.specs.declared.references.Reference.{Reference}
+use Rattle.solid_base.specs.References.{row_at, target}
 use Rattle.solid_base.specs.Graph.{row_weight, most_weight}
 use Rattle.entity_graph.specs.Tables.{entry}
 use Rattle.entity_graph.specs.Measures.{step, least, first_opaque}
