@@ -7,10 +7,7 @@ ghost use Rattle.affine_pull.specs.Chains.{chain_within, chain_of, spans_through
 
 use super::matrices::pull;
 use fixed_enclosure::Box3;
-use solid_base::{Row, Rows};
-
-/// The most levels that a model may have.
-const MOST_LEVELS: u32 = 64;
+use solid_base::{MOST_LEVELS, Row, Rows};
 
 /// The places of a box, in steps, carried back through the chain of matrices that begins at the row
 /// with the number `matrix`, from its last one to its first. 0, or a row that is no matrix, is the chain

@@ -5,7 +5,7 @@ ghost use Rattle.fixed_enclosure.specs.Places.{spans_of};
 ghost use Rattle.affine_pull.specs.Matrices.{pulled_spans};
 
 use fixed_enclosure::{Box3, along, offset};
-use solid_base::{Affine, Vec3};
+use solid_base::Affine;
 
 /// The places of a box, in steps, carried back through a matrix whose parameters are in their ranges:
 /// the shift is taken off, and then each coordinate is the scalar product with a column.
@@ -16,32 +16,10 @@ pub fn pull(matrix: &Affine, at: &Box3) -> Box3
     ensures value { spans_of result ≡ pulled_spans matrix.now (spans_of at.now) }
     ensures within { IsBox result }
 {
-    let (a, b, c) = (&matrix.row1, &matrix.row2, &matrix.row3);
     let way = offset(at, &matrix.shift);
     Box3 {
-        x: along(
-            &way,
-            &Vec3 {
-                x: a.x,
-                y: b.x,
-                z: c.x,
-            },
-        ),
-        y: along(
-            &way,
-            &Vec3 {
-                x: a.y,
-                y: b.y,
-                z: c.y,
-            },
-        ),
-        z: along(
-            &way,
-            &Vec3 {
-                x: a.z,
-                y: b.z,
-                z: c.z,
-            },
-        ),
+        x: along(&way, &matrix.column1()),
+        y: along(&way, &matrix.column2()),
+        z: along(&way, &matrix.column3()),
     }
 }

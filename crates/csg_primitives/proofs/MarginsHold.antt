@@ -9,7 +9,7 @@ use Rattle.fixed_enclosure.proofs.SpanSums.{minus_of-holds}
 use Rattle.fixed_enclosure.proofs.SpanProducts.{times_of-holds, square_of-holds}
 use Rattle.fixed_enclosure.proofs.SpanSigns.{sign_of-positive, sign_of-negative}
 use Rattle.csg_primitives.specs.Classes.{is_positive, is_negative, exact_class}
-use Rattle.csg_primitives.specs.Margins.{square}
+use Rattle.csg_primitives.specs.Squares.{square}
 use Rattle.csg_primitives.specs.Frames.{squared_length}
 use Rattle.csg_primitives.specs.ExactMargins.{between, slant_margin, block_margins, wedge_margins, cylinder_margins, ball_margins}
 use Rattle.fixed_enclosure.specs.Places.{Span3, SpansHold}

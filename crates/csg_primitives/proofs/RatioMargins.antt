@@ -11,7 +11,7 @@ use Rattle.fixed_enclosure.proofs.SpanSums.{minus_of-holds}
 use Rattle.fixed_enclosure.proofs.SpanProducts.{square_of-holds}
 use Rattle.fixed_enclosure.proofs.SpanQuotients.{ratio_of-holds}
 use Rattle.fixed_enclosure.proofs.SpanSigns.{sign_of-positive, sign_of-negative}
-use Rattle.csg_primitives.specs.Margins.{square}
+use Rattle.csg_primitives.specs.Squares.{square}
 use Rattle.csg_primitives.specs.ExactMargins.{ellipsoid_margins}
 use Rattle.fixed_enclosure.specs.Places.{Span3, SpansHold}
 use Rattle.csg_primitives.specs.WrittenMargins.{less_ratio, ellipsoid_span, ellipsoid_spans}

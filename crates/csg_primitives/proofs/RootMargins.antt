@@ -13,7 +13,7 @@ use Rattle.fixed_enclosure.proofs.SpanProducts.{times_of-holds, square_of-holds}
 use Rattle.fixed_enclosure.proofs.SpanRoots.{root_of-holds_floor, root_of-holds_ceil, ceil_root-is}
 use Rattle.fixed_enclosure.proofs.SpanSigns.{sign_of-positive, sign_of-negative}
 use Rattle.csg_primitives.specs.Classes.{is_positive, is_negative}
-use Rattle.csg_primitives.specs.Margins.{square}
+use Rattle.csg_primitives.specs.Squares.{square}
 use Rattle.csg_primitives.specs.ExactMargins.{cone_reach, cone_margins, torus_sum, torus_margins}
 use Rattle.csg_primitives.specs.WrittenMargins.{below_span, cone_span, torus_sum_span, torus_span, cone_spans, torus_spans}
 use Rattle.csg_primitives.proofs.Classes.{positive_in, negative_in, exact_inside, exact_outside}

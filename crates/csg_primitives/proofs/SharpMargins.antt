@@ -12,7 +12,7 @@ use Rattle.solid_base.specs.Ranges.{dot, IsSize, AreSizes, IsUnit, IsLawfulPrim}
 use Rattle.fixed_enclosure.specs.Spans.{Span, box_of, enc_bound, area_bound}
 use Rattle.fixed_enclosure.specs.Values.{point_of, sign_of}
 use Rattle.csg_primitives.specs.Classes.{is_positive, is_negative, exact_class}
-use Rattle.csg_primitives.specs.Margins.{square}
+use Rattle.csg_primitives.specs.Squares.{square}
 use Rattle.fixed_enclosure.specs.Places.{offset, point_spans, offset_spans}
 use Rattle.csg_primitives.specs.Frames.{cross, squared_length, height as tall, squared_radius, local_place, axis_parts, local_parts}
 use Rattle.csg_primitives.specs.ExactMargins.{between, slant_margin, block_margins, wedge_margins, cylinder_margins, ball_margins, exact_margins, primitive_class}

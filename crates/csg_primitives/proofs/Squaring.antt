@@ -6,7 +6,7 @@ use Rattle.solid_base.proofs.Ring.{lines, diffs, diff-same, by_diff, by_diff2, b
 use Rattle.fixed_enclosure.specs.Roots.{floor_root, ceil_root}
 use Rattle.fixed_enclosure.specs.Values.{cut}
 use Rattle.fixed_enclosure.proofs.SpanRoots.{floor_root-is}
-use Rattle.csg_primitives.specs.Margins.{square}
+use Rattle.csg_primitives.specs.Squares.{square}
 
 -- ---- orders of squares
 pub square_le : (u v : ℤ) → pos 0 ≤ℤ u → u ≤ℤ v → square u ≤ℤ square v

@@ -5,7 +5,7 @@ use Rattle.solid_base.specs.declared.classes.Class.{Class}
 use Rattle.solid_base.specs.declared.solids.Primitive.{Primitive}
 use Rattle.solid_base.specs.declared.solids.Primitive.TheVariants as prim
 use Rattle.csg_primitives.specs.Classes.{exact_class}
-use Rattle.csg_primitives.specs.Margins.{square}
+use Rattle.csg_primitives.specs.Squares.{square}
 use Rattle.fixed_enclosure.specs.Places.{offset}
 use Rattle.csg_primitives.specs.Frames.{squared_length, height, squared_radius, local_place, axis_parts, local_parts}
 

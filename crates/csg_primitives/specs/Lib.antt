@@ -1,5 +1,5 @@
 pub mod Classes
-pub mod Margins
+pub mod Squares
 pub mod Frames
 pub mod ExactMargins
 pub mod WrittenFrames

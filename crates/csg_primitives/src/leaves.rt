@@ -1,4 +1,5 @@
-ghost use Rattle.std.specs.Prelude.{◌≡◌, ◌+◌, min};
+ghost use Rattle.std.specs.Prelude.{◌≡◌};
+ghost use Rattle.solid_base.specs.Ledgers.{counted};
 ghost use Rattle.solid_base.specs.Ranges.{IsLawfulPrim};
 ghost use Rattle.fixed_enclosure.specs.Spans.{IsBox};
 ghost use Rattle.csg_primitives.specs.WrittenMargins.{written_class};
@@ -16,7 +17,7 @@ pub fn leaf<L: Ledger>(prim: &Prim, at: &Box3, leaves: &mut L) -> Class
     requires prim { IsLawfulPrim prim.now }
     requires at { IsBox at.now }
     ensures written { result ≡ written_class prim.now at.now }
-    ensures tick { L.count leaves.new ≡ min (L.count leaves.old + 1) u64.MAX }
+    ensures tick { L.count leaves.new ≡ counted (L.count leaves.old) 1 }
 {
     leaves.tick();
     class_over(prim, at)

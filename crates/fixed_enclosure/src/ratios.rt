@@ -4,9 +4,7 @@ ghost use Rattle.fixed_enclosure.specs.Spans.{enc_span, enc_bound, IsEnc};
 ghost use Rattle.fixed_enclosure.specs.Values.{cut, floor_over, ceil_over, ratio_of, unit};
 
 use super::enclosures::Enc;
-use solid_base::U;
-
-const UNIT: u64 = 1_000_000_000_000;
+use solid_base::{STEPS_IN_UNIT, U};
 
 /// The numbers of 64 bits.
 const WORD: u128 = 18_446_744_073_709_551_616;
@@ -90,7 +88,7 @@ fn over_size(z: u64, size: u64) -> u64
     ensures value { result ≡ z * unit / size }
     ensures small { result ≤ 4 * unit }
 {
-    let (parts, divisor) = (product(z, UNIT), size as u128);
+    let (parts, divisor) = (product(z, STEPS_IN_UNIT), size as u128);
     let near = near_over_size(z, size);
     let taken = product(near, size);
     if taken <= parts && parts - taken < 2 * divisor {
@@ -114,8 +112,11 @@ fn near_over_size(z: u64, size: u64) -> u64
     let shift = (4 * size).leading_zeros();
     let (number, divisor) = (z << shift, size << shift);
     let inverse = u64::MAX / ((divisor >> 30) + 1);
-    let first = bits_from(61, product(bits_from(33, product(number, inverse)), UNIT));
-    let rest = product(number, UNIT).wrapping_sub(product(first, divisor));
+    let first = bits_from(
+        61,
+        product(bits_from(33, product(number, inverse)), STEPS_IN_UNIT),
+    );
+    let rest = product(number, STEPS_IN_UNIT).wrapping_sub(product(first, divisor));
     first.wrapping_add(bits_from(82, product(bits_from(12, rest), inverse)))
 }
 

@@ -4,12 +4,10 @@ ghost use Rattle.fixed_enclosure.specs.Spans.{enc_bound};
 ghost use Rattle.fixed_enclosure.specs.Values.{floor_over, ceil_over, unit};
 
 use super::bounds::ENC_BOUND;
-use solid_base::U;
+use solid_base::{STEPS_IN_UNIT, U};
 
 /// The greatest area that is a length in range over a unit.
 pub(crate) const WIDEST: i128 = 1_000_000_000_000_000_000_000_000_000_000;
-
-const UNIT: u64 = 1_000_000_000_000;
 
 /// A unit has the factors 2^12 and 5^12.
 const TWOS: u128 = 4096;
@@ -53,7 +51,7 @@ fn units_above(rest: u64) -> u64
     requires { rest ≤ 4 * 10 ^ 18 }
     ensures { result ≡ (rest + (unit - 1)) / unit }
 {
-    (rest + (UNIT - 1)) / UNIT
+    (rest + (STEPS_IN_UNIT - 1)) / STEPS_IN_UNIT
 }
 
 // A number over a unit, rounded down: long division by parts, since 64 bits are divided by a constant
