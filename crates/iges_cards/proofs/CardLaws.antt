@@ -7,7 +7,8 @@ use Rattle.iges_cards.specs.declared.faults.CardFault.TheVariants as fault
 use Rattle.iges_cards.specs.declared.sections.Counts.{Counts}
 use Rattle.iges_cards.specs.declared.sections.Section.{Section}
 use Rattle.iges_cards.specs.declared.sections.Section.TheVariants as section
-use Rattle.iges_cards.specs.Checks.{◌>>=◌, columns_in, is_other_form, allowed, section_after, card_in, group_in, told, told_in, same_count, terminated}
+use Rattle.solid_base.specs.Outcomes.{◌>>=◌}
+use Rattle.iges_cards.specs.Checks.{columns_in, is_other_form, allowed, section_after, card_in, group_in, told, told_in, same_count, terminated}
 use Rattle.iges_cards.specs.Grammar.{IsGroup, HasGroups}
 use Rattle.solid_base.specs.Spelling.{is_blank}
 use Rattle.iges_cards.specs.Lines.{HasColumns}

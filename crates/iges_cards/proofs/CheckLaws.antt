@@ -1,7 +1,7 @@
 -- Tests, and checks that give something or a fault.
 use Rattle.std.proofs.Common.{◌≡◌, ◌≢◌, ℕ, ◌<◌, ◌≤◌, Bool, true, false, cond, not, ◌&&◌, ◌==◌, nat_lt, Option, None, Some, Result, Ok, Err, refl, ap, arith}
 use Rattle.iges_cards.specs.declared.faults.CardFault.{CardFault}
-use Rattle.iges_cards.specs.Checks.{◌>>=◌}
+use Rattle.solid_base.specs.Outcomes.{◌>>=◌}
 
 pub both : (a b : Bool) → a && b ≡ true → (a ≡ true) × (b ≡ true)
 both true true h = (refl, refl)

@@ -7,7 +7,8 @@ use Rattle.iges_cards.specs.declared.reader.Cards.{Cards}
 use Rattle.iges_cards.specs.declared.sections.Counts.{Counts}
 use Rattle.iges_cards.specs.declared.sections.Section.{Section}
 use Rattle.iges_cards.specs.declared.sections.Section.TheVariants as section
-use Rattle.iges_cards.specs.Checks.{◌>>=◌, columns_in, is_other_form, allowed, group_in, section_after, card_in, told, told_in, same_count, terminated}
+use Rattle.solid_base.specs.Outcomes.{◌>>=◌}
+use Rattle.iges_cards.specs.Checks.{columns_in, is_other_form, allowed, group_in, section_after, card_in, told, told_in, same_count, terminated}
 use Rattle.solid_base.specs.Spelling.{is_blank}
 use Rattle.iges_cards.specs.Lines.{line_texts, line_of}
 use Rattle.iges_cards.specs.Numbers.{is_same, number_in}

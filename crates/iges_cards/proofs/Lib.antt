@@ -7,3 +7,4 @@ pub mod NumberLaws
 pub mod Steps
 pub mod TakesLaws
 pub mod FirstFeeds
+pub mod KeptLaws

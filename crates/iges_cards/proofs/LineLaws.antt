@@ -4,7 +4,8 @@ use Rattle.std.specs.List.{concat}
 use Rattle.std.proofs.lemmas.List.{take-append-drop}
 use Rattle.std.proofs.lemmas.List.Elements.{recursion_from_All}
 use Rattle.std.proofs.Math.Seq.{drop-cons}
-use Rattle.iges_cards.specs.Lines.{IsOneLine, IsLine, put_in_front, line_texts, is_feed, line_of}
+use Rattle.solid_base.specs.Texts.{IsOneLine}
+use Rattle.iges_cards.specs.Lines.{IsLine, put_in_front, line_texts, is_feed, line_of}
 use Rattle.iges_cards.proofs.CheckLaws.{and_false, test_other, test_same, test_not}
 
 -- ---- the texts of lines
@@ -154,7 +155,7 @@ ends_in_return (b ∷ c ∷ bs) = elim (ends_in_return (c ∷ bs)) as (λ _. End
   | inr other ↦ inr (after_one b (c ∷ bs) (omega arith) other)
 ]
 
-front_one_line : (a b : List ℕ) → IsOneLine (a ++ b) → IsOneLine a
+pub front_one_line : (a b : List ℕ) → IsOneLine (a ++ b) → IsOneLine a
 front_one_line [] b h = tt
 front_one_line (x ∷ xs) b h = (h.0, front_one_line xs b h.1)
 

@@ -1,14 +1,15 @@
 -- Numbers in columns: what is spelt is read, and what is read is spelt.
-use Rattle.std.proofs.Common.{◌≡◌, ℕ, ◌+◌, ◌<◌, ◌≤◌, List, [], ◌∷◌, ◌++◌, Bool, true, false, not, ◌&&◌, ◌==◌, length, take, drop, Some, refl, sym, ap, ◌∙◌, arith, length-append, one-add, IsTrue, suc}
+use Rattle.std.proofs.Common.{◌≡◌, ℕ, ◌+◌, ◌<◌, ◌≤◌, List, [], ◌∷◌, ◌++◌, Bool, true, false, not, ◌&&◌, ◌==◌, length, take, drop, Some, refl, sym, ap, subst, ◌∙◌, arith, length-append, one-add, IsTrue, suc}
 use Rattle.std.specs.List.{AllByRecursion, prefix_len, list_all}
 use Rattle.std.proofs.lemmas.List.{take-append-drop}
 use Rattle.std.proofs.lemmas.List.Folds.{length-prefix_len}
 use Rattle.std.proofs.Math.Seq.{take-append_seam, drop-append_seam}
 use Rattle.solid_base.specs.Digits.{is_digit, AreDigits, number_of}
-use Rattle.solid_base.specs.Spelling.{is_blank, AreBlanks, after_blanks}
+use Rattle.solid_base.specs.Columns.{AreDigitsOf, number_before, digits_in}
+use Rattle.solid_base.specs.Spelling.{is_blank, AreBlanks, after_blanks, digit_count}
 use Rattle.solid_base.proofs.Digits.{number_of_below}
 use Rattle.solid_base.proofs.Prefix.{front_passes}
-use Rattle.iges_cards.specs.Numbers.{IsNumber, number_before, number_in}
+use Rattle.iges_cards.specs.Numbers.{IsNumber, number_in}
 use Rattle.iges_cards.proofs.CheckLaws.{both, turned, passed, test_not}
 
 pub all_test : (p : ℕ → Bool) (xs : List ℕ) → AllByRecursion (λ b. IsTrue (p b)) xs → list_all p xs ≡ true
@@ -52,45 +53,61 @@ not_none n h = grind arith
 
 -- ---- the laws
 
-number_again_before : (digits after : List ℕ) → 0 < length digits → AreDigits digits → AreBlanks after → number_before (prefix_len is_digit (digits ++ after)) (digits ++ after) ≡ Some (number_of digits)
-number_again_before digits after some h b =
+digits_again_before : (digits after : List ℕ) → 0 < length digits → AreDigits digits → AreBlanks after
+    → number_before (digit_count (digits ++ after)) (digits ++ after) ≡ Some (number_of digits)
+digits_again_before digits after some h b =
     rw (front_length is_digit digits after h (blanks_stop after b), drop-append_seam digits after, take-append_seam digits after, all_test is_blank after b, not_none (length digits) some) refl
+
+digits_again : (n : ℕ) (columns : List ℕ) → AreDigitsOf n columns → digits_in columns ≡ Some n
+unfolding digits_in
+digits_again n columns h =
+    ap (λ t. number_before (digit_count t) t) h.spelt ∙ digits_again_before h.digits h.after h.some_digit h.all_digits h.after_blank ∙ ap Some h.value
+
+field_stops : (n : ℕ) (columns : List ℕ) → AreDigitsOf n columns → Stops is_blank columns
+field_stops n columns h = subst (λ t. Stops is_blank t) (sym h.spelt) (digits_stop h.digits h.after h.some_digit h.all_digits)
 
 pub number_again : (n : ℕ) (columns : List ℕ) → IsNumber n columns → number_in columns ≡ Some n
 unfolding number_in
 number_again n columns h =
-    let rest = h.digits ++ h.after in
-    let count : prefix_len is_blank columns ≡ length h.before = ap (prefix_len is_blank) h.spelt ∙ front_length is_blank h.before rest h.before_blank (digits_stop h.digits h.after h.some_digit h.all_digits) in
-    let text : after_blanks columns ≡ rest = ap (λ k. drop k columns) count ∙ ap (drop (length h.before)) h.spelt ∙ drop-append_seam h.before rest in
-    ap (λ t. number_before (prefix_len is_digit t) t) text ∙ number_again_before h.digits h.after h.some_digit h.all_digits h.after_blank ∙ ap Some h.value
+    let count : prefix_len is_blank columns ≡ length h.before = ap (prefix_len is_blank) h.spelt ∙ front_length is_blank h.before h.field h.before_blank (field_stops n h.field h.digits) in
+    let text : after_blanks columns ≡ h.field = ap (λ k. drop k columns) count ∙ ap (drop (length h.before)) h.spelt ∙ drop-append_seam h.before h.field in
+    ap digits_in text ∙ digits_again n h.field h.digits
 
 some_of : (n : ℕ) → not (n == 0) ≡ true → 0 < n
 some_of n h = let other = test_not n 0 (turned (n == 0) h) in omega arith
 
-pub number_takes : (n : ℕ) (columns : List ℕ) → number_in columns ≡ Some n → IsNumber n columns
-unfolding number_in
-number_takes n columns h =
-    let text = after_blanks columns in
-    let count = prefix_len is_digit text in
+digits_take : (n : ℕ) (text : List ℕ) → digits_in text ≡ Some n → AreDigitsOf n text
+unfolding digits_in
+digits_take n text h =
+    let count = digit_count text in
     let (tests, value) = passed (not (count == 0) && list_all is_blank (drop count text)) (Some (number_of (take count text))) n h in
     let (some, blank) = both (not (count == 0)) (list_all is_blank (drop count text)) tests in
     let positive : 0 < count = some_of count some in
     record {
-      before = take (prefix_len is_blank columns) columns;
       digits = take count text;
       after = drop count text;
-      spelt = sym (take-append-drop (prefix_len is_blank columns) columns) ∙ ap (λ t. take (prefix_len is_blank columns) columns ++ t) (sym (take-append-drop count text));
-      before_blank = front_passes is_blank columns;
-      some_digit = omega (arith, length-prefix_len is_digit text);
+      spelt = sym (take-append-drop count text);
+      some_digit = omega (arith, positive, length-prefix_len is_digit text);
       all_digits = front_passes is_digit text;
       after_blank = test_all is_blank (drop count text) blank;
       value = (let e : number_of (take count text) ≡ n = cc in e);
     }
 
+pub number_takes : (n : ℕ) (columns : List ℕ) → number_in columns ≡ Some n → IsNumber n columns
+unfolding number_in
+number_takes n columns h = record {
+  before = take (prefix_len is_blank columns) columns;
+  field = after_blanks columns;
+  spelt = sym (take-append-drop (prefix_len is_blank columns) columns);
+  before_blank = front_passes is_blank columns;
+  digits = digits_take n (after_blanks columns) h;
+}
+
 -- a number in seven columns
 pub number_below : (n : ℕ) (columns : List ℕ) → IsNumber n columns → length columns ≤ 7 → n ≤ 9999999
 number_below n columns h short =
-    let parts : length columns ≡ length h.before + (length h.digits + length h.after) =
-    ap length h.spelt ∙ length-append h.before (h.digits ++ h.after) ∙ ap (λ k. length h.before + k) (length-append h.digits h.after) in
-    let below = number_of_below 7 h.digits h.all_digits (omega arith) in
-    omega (arith, below, h.value)
+    let d = h.digits in
+    let parts : length columns ≡ length h.before + length h.field = ap length h.spelt ∙ length-append h.before h.field in
+    let cut : length h.field ≡ length d.digits + length d.after = ap length d.spelt ∙ length-append d.digits d.after in
+    let below = number_of_below 7 d.digits d.all_digits (omega arith) in
+    omega (arith, below, d.value)

@@ -6,9 +6,11 @@ use Rattle.iges_cards.specs.declared.reader.Cards.{Cards}
 use Rattle.iges_cards.specs.declared.sections.Counts.{Counts}
 use Rattle.iges_cards.specs.declared.sections.Section.{Section}
 use Rattle.iges_cards.specs.declared.sections.Section.TheVariants as section
-use Rattle.iges_cards.specs.Checks.{◌>>=◌, card_in, terminated}
+use Rattle.solid_base.specs.Outcomes.{◌>>=◌}
+use Rattle.iges_cards.specs.Checks.{card_in, terminated}
 use Rattle.iges_cards.specs.Grammar.{IsCard, HasGroups, AreSections, counts_of, IsFixedForm}
-use Rattle.iges_cards.specs.Lines.{IsOneLine, IsLine, line_texts, line_of}
+use Rattle.solid_base.specs.Texts.{IsOneLine}
+use Rattle.iges_cards.specs.Lines.{IsLine, line_texts, line_of}
 use Rattle.iges_cards.specs.Numbers.{IsNumber}
 use Rattle.iges_cards.specs.Reading.{keep, no_cards, read_from, cards_in}
 use Rattle.iges_cards.specs.Sections.{may_follow, width_of, is_terminate, count_of, one_more, no_lines}

@@ -1,26 +1,16 @@
 -- The order in which a line is checked: its length, what stands past column 80, whether the first line is of another
 -- form, its section letter, its number; of the terminate line then its groups and counts. This order is solidd's own.
-use Rattle.std.specs.Prelude.{◌≡◌, ℕ, ◌+◌, List, [], ◌∷◌, Bool, false, cond, ◌==◌, ◌||◌, nat_lt, length, take, drop, slice_index, Option, None, Some, Result, Ok, Err}
+use Rattle.std.specs.Prelude.{ℕ, ◌+◌, List, [], ◌∷◌, Bool, false, cond, ◌==◌, ◌||◌, nat_lt, length, take, drop, slice_index, Option, None, Some, Result, Ok, Err}
 use Rattle.std.specs.List.{list_all}
 use Rattle.iges_cards.specs.declared.faults.CardFault.{CardFault}
 use Rattle.iges_cards.specs.declared.faults.CardFault.TheVariants as fault
 use Rattle.iges_cards.specs.declared.sections.Counts.{Counts}
 use Rattle.iges_cards.specs.declared.sections.Section.{Section}
 use Rattle.iges_cards.specs.declared.sections.Section.TheVariants as section
+use Rattle.solid_base.specs.Outcomes.{◌>>=◌}
 use Rattle.solid_base.specs.Spelling.{is_blank}
 use Rattle.iges_cards.specs.Numbers.{number_in, is_same}
 use Rattle.iges_cards.specs.Sections.{letter_of, section_of, may_follow, count_of, lines_in}
-
-infixl 10 ◌>>=◌
--- a check, and then the next on what it gave
-abbrev pub ◌>>=◌ : {A B : Type 0} → Result A CardFault → (A → Result B CardFault) → Result B CardFault
-(Ok x) >>= f = f x
-(Err e) >>= f = Err e
-
--- what a function returned, seen by view, is what checking gives
-abbrev pub Gives : {X Y : Type 0} → (X → Y) → Result X CardFault → Result Y CardFault → Type 0
-Gives view (Ok x) read = read ≡ Ok (view x)
-Gives view (Err f) read = read ≡ Err f
 
 -- the 80 columns of a line, the number of which is given
 unfoldable pub columns_in : ℕ → List ℕ → Result (List ℕ) CardFault

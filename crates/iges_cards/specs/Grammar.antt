@@ -7,7 +7,8 @@ use Rattle.iges_cards.specs.declared.reader.Cards.{Cards}
 use Rattle.iges_cards.specs.declared.sections.Counts.{Counts}
 use Rattle.iges_cards.specs.declared.sections.Section.{Section}
 use Rattle.iges_cards.specs.declared.sections.Section.TheVariants as section
-use Rattle.iges_cards.specs.Lines.{IsOneLine, IsLine, HasColumns}
+use Rattle.solid_base.specs.Texts.{IsOneLine}
+use Rattle.iges_cards.specs.Lines.{IsLine, HasColumns}
 use Rattle.iges_cards.specs.Numbers.{IsNumber}
 use Rattle.iges_cards.specs.Sections.{letter_of}
 

@@ -1,5 +1,6 @@
 pub mod Checks
 pub mod Grammar
+pub mod Kept
 pub mod Lines
 pub mod Numbers
 pub mod Reading

@@ -1,12 +1,8 @@
 -- Lines of the fixed form (IGES 5.3, 2.2: lines of 80 columns). The line ends LF and CR LF, and blanks past column
 -- 80, are solidd's own.
 use Rattle.std.specs.Prelude.{◌≡◌, ◌≢◌, ◌⊎◌, ℕ, List, [], ◌∷◌, ◌++◌, Bool, false, cond, ◌==◌, ◌&&◌, length}
-use Rattle.std.specs.List.{AllByRecursion}
 use Rattle.solid_base.specs.Spelling.{AreBlanks}
-
--- no byte is a line feed
-abbrev pub IsOneLine : List ℕ → Type 0
-IsOneLine line = AllByRecursion (λ b. b ≢ 10) line
+use Rattle.solid_base.specs.Texts.{IsOneLine}
 
 -- the text is a line with its line end, LF or CR LF; a CR directly before LF belongs to the line end
 pub record IsLine (text line : List ℕ) : Type 0 where

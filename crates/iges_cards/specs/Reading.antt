@@ -6,7 +6,8 @@ use Rattle.iges_cards.specs.declared.reader.Cards.{Cards}
 use Rattle.iges_cards.specs.declared.sections.Counts.{Counts}
 use Rattle.iges_cards.specs.declared.sections.Section.{Section}
 use Rattle.iges_cards.specs.declared.sections.Section.TheVariants as section
-use Rattle.iges_cards.specs.Checks.{◌>>=◌, card_in, terminated}
+use Rattle.solid_base.specs.Outcomes.{◌>>=◌}
+use Rattle.iges_cards.specs.Checks.{card_in, terminated}
 use Rattle.iges_cards.specs.Lines.{line_texts, line_of}
 use Rattle.iges_cards.specs.Sections.{width_of, is_terminate, one_more, no_lines}
 

@@ -2,6 +2,7 @@ ghost use Rattle.std.specs.Prelude.{◌≡◌, ◌↔◌, ℕ, List, Ok, Err};
 ghost use Rattle.iges_cards.specs.declared.faults.CardFault.{CardFault};
 ghost use Rattle.iges_cards.specs.declared.reader.Cards.{Cards};
 ghost use Rattle.iges_cards.specs.Grammar.{IsFixedForm};
+ghost use Rattle.iges_cards.specs.Kept.{AreKept};
 ghost use Rattle.iges_cards.specs.Reading.{cards_in};
 ghost use Rattle.iges_cards.specs.Words.{IsOfText};
 
@@ -12,4 +13,10 @@ pub fn one_reading()
     ensures once { (bytes : List ℕ) (a b : Cards) → IsFixedForm bytes a → IsFixedForm bytes b → a ≡ b }
     ensures refused { (bytes : List ℕ) (fault : CardFault) → cards_in bytes ≡ Err fault → IsOfText fault × ((cards : Cards) → IsFixedForm bytes cards → ⊥) }
     ensures faulty { (bytes : List ℕ) → ((cards : Cards) → IsFixedForm bytes cards → ⊥) → (fault : CardFault) × (cards_in bytes ≡ Err fault) }
+{}
+
+/// A law on all files in the fixed form: of 1 to 9,999,999 start lines 72 columns are kept, of directory
+/// lines 80 and of parameter lines 64, and no kept text has a line feed.
+pub fn kept_lines()
+    ensures { (bytes : List ℕ) (cards : Cards) → IsFixedForm bytes cards → AreKept cards }
 {}

@@ -1,5 +1,6 @@
 ghost use Rattle.std.specs.Prelude.{◌≡◌, ◌≢◌, ◌<◌, ◌++◌, ◌∷◌, [], length, take, slice_index, All, IfSome, IfNone};
-ghost use Rattle.iges_cards.specs.Lines.{IsOneLine, IsFirstLine, line_of};
+ghost use Rattle.solid_base.specs.Texts.{IsOneLine};
+ghost use Rattle.iges_cards.specs.Lines.{IsFirstLine, line_of};
 
 use memchr::memchr;
 
