@@ -14,6 +14,7 @@ pub record Store : Type 0 where
   pub room : ℕ
   pub calls : Calls
 
--- the next write fails if it is given these bytes: its call is listed, or there are bytes and no room is left
+-- the next write fails if it is given these bytes: its call is listed, or there are bytes and no
+-- room is left
 abbrev pub Refuses : Store → List ℕ → Type 0
 Refuses sink bytes = IsListed sink.calls ⊎ ((sink.room ≤ length sink.held) × (0 < length bytes))

@@ -1,4 +1,5 @@
-ghost use Rattle.std.specs.Prelude.{◌≡◌, ◌≤◌, ◌↔◌, IsTrue};
+ghost use Rattle.std.specs.Prelude.{◌≡◌, ◌↔◌, IsTrue};
+ghost use Rattle.solid_base.specs.Ledgers.{counted};
 
 use solid_base::Numbers;
 
@@ -12,7 +13,6 @@ pub struct Calls {
 
 impl Calls {
     ghost use Rattle.solid_io.specs.Calls.{IsListed, after_call};
-    ghost use Rattle.solid_io.specs.Causes.{raised};
 
     /// No call yet. The calls with the numbers in `fails`, counted from 0, will fail.
     pub fn new(fails: Numbers) -> Calls
@@ -40,8 +40,7 @@ impl Calls {
 
     /// Counts a failure.
     pub fn fail(&mut self)
-        ensures counted { self.new ≡ record self.old { faults = raised self.old.faults } }
-        ensures later { self.old.faults ≤ self.new.faults }
+        ensures { self.new ≡ record self.old { faults = counted self.old.faults 1 } }
     {
         self.faults = self.faults.saturating_add(1);
     }

@@ -1,8 +1,9 @@
-ghost use Rattle.std.specs.Prelude.{◌≡◌, ◌↔◌, ◌+◌, ◌-◌, ◌<◌, [], ◌++◌, length, take, drop, min, IsErr, IfOk, OnErr};
+ghost use Rattle.std.specs.Prelude.{◌≡◌, ◌↔◌, ◌-◌, ◌<◌, [], ◌++◌, length, take, drop, min, IsErr, IfOk, OnErr};
 ghost use Rattle.std.specs.Io.{ReadsAtMost, WritesAtMost};
 ghost use Rattle.std.specs.Io.KnownBytes.{ReadConsumes, WriteAppends};
+ghost use Rattle.solid_base.specs.Ledgers.{most_count};
 ghost use Rattle.solid_io.specs.Calls.{IsListed, after_call, after_failure};
-ghost use Rattle.solid_io.specs.Causes.{HasCause, SameTold};
+ghost use Rattle.solid_io.specs.Causes.{SameKnown, count_after};
 
 use crate::calls::Calls;
 use crate::traits::{Failed, Sink, Source};
@@ -10,7 +11,7 @@ use solid_base::{Bytes, Numbers};
 use std::alloc::{AllocError, Global};
 use std::marker::Model;
 
-/// Bytes in memory, as a source that tells them. The listed calls fail.
+/// Bytes in memory, as a source whose bytes are known. The listed calls fail.
 #[derive(Drop)]
 pub struct MemSource {
     bytes: Bytes,
@@ -45,17 +46,22 @@ impl MemSource {
 
 impl Source for MemSource {
     ghost use Rattle.std.specs.Prelude.{Some};
+    ghost use Rattle.solid_base.specs.Ledgers.{within_most};
 
     ghost left = { λ s. Some s.left };
 
-    ghost faults = { λ s. s.calls.faults };
+    ghost faults = { λ s. min s.calls.faults most_count };
+
+    ghost bounded = { λ s. within_most s.calls.faults };
 
     /// Gives as many bytes as `buf` takes. Fails exactly at the listed calls, and then loses none.
     fn read(&mut self, buf: &mut [u8]) -> Result<usize, Failed>
         ensures bound { ReadsAtMost result buf.new }
-        ensures bytes { ReadConsumes (Some self.old.left) (Some self.new.left) result buf.new }
-        ensures told { SameTold (Some self.old.left) (Some self.new.left) }
-        ensures cause { HasCause self.old.calls.faults self.new.calls.faults result }
+        ensures bytes { ReadConsumes
+            (Some self.old.left) (Some self.new.left) result buf.new }
+        ensures known { SameKnown (Some self.old.left) (Some self.new.left) }
+        ensures cause { min self.new.calls.faults most_count ≡
+            count_after (min self.old.calls.faults most_count) result }
 
         ensures fails { IsErr result ↔ IsListed self.old.calls }
         ensures count { IfOk result (λ n. n ≡ min (length buf.old) (length self.old.left)) }
@@ -76,7 +82,7 @@ impl Source for MemSource {
     }
 }
 
-/// Bytes kept in memory, as a sink that tells them. The listed calls fail.
+/// Bytes kept in memory, as a sink whose bytes are known. The listed calls fail.
 #[derive(Drop)]
 pub struct MemSink {
     bytes: Vec<u8>,
@@ -103,7 +109,8 @@ impl MemSink {
     pub fn new(alloc: Global, room: usize, fails: Numbers) -> Result<MemSink, AllocError>
         ensures empty { IfOk result (λ sink. sink.held ≡ []) }
         ensures room { IfOk result (λ sink. sink.room ≡ room) }
-        ensures calls { IfOk result (λ sink. sink.calls ≡ record { fails = fails; made = 0; faults = 0 }) }
+        ensures calls { IfOk result (λ sink.
+            sink.calls ≡ record { fails = fails; made = 0; faults = 0 }) }
     {
         Ok(MemSink {
             bytes: Vec::with_capacity(alloc, room)?,
@@ -122,23 +129,29 @@ impl MemSink {
 
 impl Sink for MemSink {
     ghost use Rattle.std.specs.Prelude.{Some};
+    ghost use Rattle.solid_base.specs.Ledgers.{within_most};
     ghost use Rattle.solid_io.specs.Memory.{Refuses};
 
     ghost held = { λ s. Some s.held };
 
-    ghost faults = { λ s. s.calls.faults };
+    ghost faults = { λ s. min s.calls.faults most_count };
+
+    ghost bounded = { λ s. within_most s.calls.faults };
 
     /// Takes as many bytes as there is room for, and no memory. Fails exactly at the listed calls, and
     /// where no room is left for a piece that isn't empty, and then keeps nothing of the piece.
     fn write(&mut self, bytes: &[u8]) -> Result<usize, Failed>
         ensures bound { WritesAtMost result bytes.now }
-        ensures bytes { WriteAppends (Some self.old.held) (Some self.new.held) result bytes.now }
-        ensures told { SameTold (Some self.old.held) (Some self.new.held) }
+        ensures bytes { WriteAppends
+            (Some self.old.held) (Some self.new.held) result bytes.now }
+        ensures known { SameKnown (Some self.old.held) (Some self.new.held) }
         ensures moves { 0 < length bytes.now → IfOk result (λ n. 0 < n) }
-        ensures cause { HasCause self.old.calls.faults self.new.calls.faults result }
+        ensures cause { min self.new.calls.faults most_count ≡
+            count_after (min self.old.calls.faults most_count) result }
 
         ensures fails { IsErr result ↔ Refuses self.old bytes.now }
-        ensures count { IfOk result (λ n. n ≡ min (length bytes.now) (self.old.room - length self.old.held)) }
+        ensures count { IfOk result (λ n.
+            n ≡ min (length bytes.now) (self.old.room - length self.old.held)) }
         ensures ok { IfOk result (λ n. self.new ≡ record self.old {
           held = self.old.held ++ take n bytes.now;
           calls = after_call self.old.calls;
