@@ -8,8 +8,8 @@ there is any:
              that names its crate and file; a public function that docs/PROVED.md doesn't name in the section
              of its crate; a fault or a status that docs/ERRORS.md or docs/FORMATS.md doesn't name
   stale      a line quoted in docs/DEFINITIONS.md that stands in no file of specs/; a listed definition that
-             isn't in the files that its section names; a name in backticks that stands nowhere in the
-             repository; docs/INDEX.md, where it isn't what --write would write
+             isn't in the files that its section names; a name or a file in backticks that stands nowhere in
+             the repository; docs/INDEX.md, where it isn't what --write would write
   commands   the launcher's list of commands isn't that of the program
   words      a word that docs/ uses another one for; README.md with 200 lines or more
 
@@ -260,6 +260,16 @@ def stale_names():
                             yield "stale: %s:%d: %s stands nowhere" % (page, number, name)
 
 
+def stale_files():
+    """Files of crates that a page names and that aren't there."""
+    every = [path[len(ROOT) + 1 :] for path in files("crates/**/*.rt") + files("crates/**/*.antt")]
+    for page in PAGES:
+        for number, line in enumerate(read(page).splitlines(), 1):
+            for name in re.findall(r"`([\w./]+\.(?:rt|antt))`", line):
+                if not any(("/" + path).endswith("/" + name) for path in every):
+                    yield "stale: %s:%d: there is no file %s" % (page, number, name)
+
+
 def missing_functions(functions):
     parts = {}
     for part in sections("docs/PROVED.md"):
@@ -269,6 +279,25 @@ def missing_functions(functions):
     for crate, name in sorted(functions):
         if name not in COMMON and name not in parts.get(crate, set()):
             yield "missing: docs/PROVED.md: %s of %s" % (name, crate)
+
+
+def stale_clauses(texts):
+    """Names in a crate's section of docs/PROVED.md that are no clause, function, type or definition there."""
+    every = {name for own in texts.values() for name in own} | {"args", "stdin", "stdout", "check", "replay", "u64"}
+    for path in files("crates/*/src/**/*.rt"):
+        every.update(re.findall(r"\b(?:fn|mod) (\w+)", open(path, encoding="utf-8").read()))
+    for part in sections("docs/PROVED.md"):
+        crate = (WORD.findall(part[0]) or [""])[0]
+        if crate not in CRATES:
+            continue
+        known = set(every)
+        for path in files("crates/%s/src/**/*.rt" % crate):
+            text = open(path, encoding="utf-8").read()
+            known.update(re.findall(r"\b(?:ensures|requires|ghost) (\w+)", text))
+        for line in part:
+            for name in TICKED.findall(line):
+                if re.fullmatch(r"[a-z]\w*", name) and name not in known and name not in CRATES:
+                    yield "stale: docs/PROVED.md: %s is no clause, function or definition of %s" % (name, crate)
 
 
 def missing_faults():
@@ -356,8 +385,8 @@ def main():
     if "--write" in sys.argv[1:]:
         with open(path, "w", encoding="utf-8") as sink:
             sink.write(wanted)
-    found = [*missing_definitions(seeds, texts), *stale_lines(), *stale_rows(texts), *stale_names()]
-    found += [*missing_functions(functions), *missing_faults(), *commands(), *words()]
+    found = [*missing_definitions(seeds, texts), *stale_lines(), *stale_rows(texts), *stale_names(), *stale_files()]
+    found += [*missing_functions(functions), *stale_clauses(texts), *missing_faults(), *commands(), *words()]
     if not os.path.exists(path) or read("docs/INDEX.md") != wanted:
         found.append("stale: docs/INDEX.md: python3 docs/check_docs.py --write")
     print("\n".join(found + ["%d definitions, %d problems" % (len(reached), len(found))]))
