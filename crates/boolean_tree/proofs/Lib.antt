@@ -3,4 +3,7 @@ pub mod Steps
 pub mod Fronts
 pub mod StandardFacts
 pub mod Deciding
-pub mod Played
+pub mod Leaves
+pub mod Spelling
+pub mod Counts
+pub mod Stacks

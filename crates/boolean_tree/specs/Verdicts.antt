@@ -1,11 +1,12 @@
--- solidd's own: what the operations of a Boolean tree make of classes and verdicts. The order of the classes is Outside < Mixed < Inside.
-use Rattle.std.specs.Prelude.{◌≡◌, ℕ, ◌+◌, List, [], ◌∷◌, drop, Option, None, Some}
+-- solidd's own: what the operations of a Boolean tree make of classes and verdicts. The order of
+-- the classes is Outside < Mixed < Inside.
+use Rattle.std.specs.Prelude.{◌≡◌, ℕ, ◌+◌, List, [], ◌∷◌, drop}
 use Rattle.solid_base.specs.declared.classes.Class.{Class}
 use Rattle.solid_base.specs.declared.classes.Class.TheVariants.{Outside, Mixed, Inside}
 use Rattle.solid_base.specs.declared.classes.Verdict.{Verdict}
 use Rattle.solid_base.specs.declared.solids.Item.{Item}
-use Rattle.solid_base.specs.declared.solids.Item.TheVariants as item
-use Rattle.solid_base.specs.Trees.{Operation, union, intersection, difference, Tree, operand, combination, item_of}
+use Rattle.solid_base.specs.Trees.{Operation, union, intersection, difference}
+use Rattle.solid_base.specs.Trees.{Tree, operand, combination, item_of}
 
 -- ---- classes
 
@@ -37,7 +38,8 @@ reversed Outside = Inside
 reversed Mixed = Mixed
 reversed Inside = Outside
 
--- IGES 5.3, type 180: the class of an operation's result. A difference is what the left side shares with all that the right side leaves out
+-- IGES 5.3, type 180: the class of an operation's result. A difference is what the left side shares
+-- with all that the right side leaves out
 abbrev pub class_of : Operation → Class → Class → Class
 class_of union a b = join_of a b
 class_of intersection a b = meet_of a b
@@ -59,7 +61,8 @@ outside = record { class = Outside; leaf = 0 }
 abbrev pub mixed_leaf : Verdict → Verdict → ℕ
 mixed_leaf a b = elim a.class [ Outside ↦ b.leaf | Mixed ↦ a.leaf | Inside ↦ b.leaf ]
 
--- solidd's own: a class that isn't Mixed has leaf 0; else the leaf is that of the first side that is Mixed
+-- solidd's own: a class that isn't Mixed has leaf 0; else the leaf is that of the first side that
+-- is Mixed
 abbrev pub leaf_of : Class → Verdict → Verdict → ℕ
 leaf_of Outside a b = 0
 leaf_of Mixed a b = mixed_leaf a b
@@ -81,28 +84,15 @@ abbrev pub first : List Verdict → Verdict
 first [] = outside
 first (v ∷ vs) = v
 
--- solidd's own: the verdict on a tree, from those on its operands in order: the left tree takes as many of them as it has operands, the right tree those after
+-- solidd's own: the verdict on a tree, from those on its operands in order: the left tree takes as
+-- many of them as it has operands, the right tree those after
 abbrev pub folded : Tree → List Verdict → Verdict
 folded (operand entity) leaves = first leaves
-folded (combination o a b) leaves = verdict_of o (folded a leaves) (folded b (drop (operand_count a) leaves))
+folded (combination o a b) leaves =
+    verdict_of o (folded a leaves) (folded b (drop (operand_count a) leaves))
 
 -- ---- items
 
 -- IGES 5.3, type 180: the item is an operation
 abbrev pub IsOperation : Item → Type 0
 IsOperation i = (o : Operation) × (i ≡ item_of o)
-
--- solidd's own: the last two of some verdicts, of which the last one stands first, are replaced by the verdict on an operation's result, and then it goes on; nothing comes of fewer than two
-abbrev pub on_two : Operation → (List Verdict → Option (List Verdict)) → List Verdict → Option (List Verdict)
-on_two o go [] = None
-on_two o go (b ∷ []) = None
-on_two o go (b ∷ a ∷ stack) = go (verdict_of o a b ∷ stack)
-
--- IGES 5.3, type 180: what a list leaves of a stack, whose last verdict stands first, where each operand pushes the next of the leaves and each operation takes the last two; nothing where a leaf or a side is wanting
-unfoldable pub played : List Item → List Verdict → List Verdict → Option (List Verdict)
-played [] leaves stack = Some stack
-played (item.Operand entity ∷ items) [] stack = None
-played (item.Operand entity ∷ items) (v ∷ leaves) stack = played items leaves (v ∷ stack)
-played (item.Join ∷ items) leaves stack = on_two union (played items leaves) stack
-played (item.Meet ∷ items) leaves stack = on_two intersection (played items leaves) stack
-played (item.Less ∷ items) leaves stack = on_two difference (played items leaves) stack

@@ -1,5 +1,7 @@
 ghost use Rattle.std.specs.Prelude.{◌≡◌, ◌+◌, ◌≤◌, List, [], ◌∷◌, ◌++◌, length};
+ghost use Rattle.std.specs.List.{AllByRecursion};
 ghost use Rattle.solid_base.specs.declared.classes.Verdict.{Verdict};
+ghost use Rattle.solid_base.specs.Classes.{IsVerdict};
 ghost use Rattle.solid_base.specs.Trees.{Operation, Tree, item_of, post_order, IsPostOrder};
 ghost use Rattle.solid_base.specs.References.{operands_of};
 ghost use Rattle.boolean_tree.specs.Verdicts.{verdict_of, folded, IsOperation};
@@ -7,13 +9,18 @@ ghost use Rattle.boolean_tree.specs.Verdicts.{verdict_of, folded, IsOperation};
 use crate::operations::operate;
 use solid_base::{Item, Items, Verdict, Verdicts};
 
-/// Replaces the last two verdicts of the stack by that on the result of an operation on them.
+/// Replaces the last two verdicts of the stack by that on the result of an operation on them, which
+/// leaves room for one verdict more. Where the verdict on each operand of a tree's list is pushed
+/// and each operation applied, in their order, the stack gains exactly the verdict that `fold`
+/// answers: the law `laws::gains_one_verdict`.
 pub fn apply(item: &Item, stack: &mut Verdicts)
     requires operation { IsOperation item.now }
     requires two { 2 ≤ length stack.old.list }
     ensures verdict { (o : Operation) (below : List Verdict) (a b : Verdict) →
         item.now ≡ item_of o → stack.old.list ≡ below ++ a ∷ b ∷ [] →
         stack.new.list ≡ below ++ verdict_of o a b ∷ [] }
+    ensures leaves { AllByRecursion IsVerdict stack.old.list →
+        AllByRecursion IsVerdict stack.new.list }
     ensures spare { stack.new.spare ≡ stack.old.spare + 1 }
 {
     let b = stack.pop().unwrap();
@@ -42,6 +49,7 @@ pub fn fold(items: &Items, leaves: &[Verdict], stack: &mut Verdicts) -> Verdict
     requires room { length leaves.now ≤ stack.old.spare }
     ensures verdict { (tree : Tree) → items.now ≡ post_order tree →
         result ≡ folded tree leaves.now }
+    ensures leaf { AllByRecursion IsVerdict leaves.now → IsVerdict result }
     ensures kept { stack.new ≡ stack.old }
 {
     let mut next: usize = 0;

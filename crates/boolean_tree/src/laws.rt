@@ -1,10 +1,16 @@
-ghost use Rattle.std.specs.Prelude.{◌≡◌, ◌-◌, ℕ, List, ◌∷◌, Some, length, max, min, take};
+ghost use Rattle.std.specs.Prelude.{◌≡◌, ◌↔◌, ◌-◌, ℕ, max, min};
+ghost use Rattle.std.specs.Prelude.{List, [], ◌∷◌, ◌++◌, length, take};
+ghost use Rattle.std.specs.List.{AllByRecursion};
 ghost use Rattle.solid_base.specs.declared.classes.Class.{Class};
 ghost use Rattle.solid_base.specs.declared.classes.Verdict.{Verdict};
 ghost use Rattle.solid_base.specs.declared.solids.Item.{Item};
+ghost use Rattle.solid_base.specs.Classes.{IsVerdict};
 ghost use Rattle.solid_base.specs.Trees.{Operation, Tree, post_order, IsPostOrder, IsFront};
 ghost use Rattle.boolean_tree.specs.Faults.{LacksOperands, LeavesOthers};
-ghost use Rattle.boolean_tree.specs.Verdicts.{rank, join_of, meet_of, reversed, class_of, Decides, operand_count, folded, played};
+ghost use Rattle.boolean_tree.specs.Spelling.{trees_of_items};
+ghost use Rattle.boolean_tree.specs.Stacks.{StackBecomes};
+ghost use Rattle.boolean_tree.specs.Verdicts.{rank, join_of, meet_of, reversed, class_of, Decides};
+ghost use Rattle.boolean_tree.specs.Verdicts.{verdict_of, operand_count, folded};
 
 /// A list is the post-order of at most one tree.
 pub fn spells_one_tree()
@@ -37,9 +43,25 @@ pub fn deciding()
         Decides (class_of o k l) (class_of o c d) }
 {}
 
-/// A tree's list, where each operand pushes its verdict and each operation takes the last two, adds
-/// exactly the verdict on the tree to a stack, whose last verdict stands first here.
-pub fn adds_one_verdict()
-    ensures { (tree : Tree) (leaves stack : List Verdict) → length leaves ≡ operand_count tree →
-        played (post_order tree) leaves stack ≡ Some (folded tree leaves ∷ stack) }
+/// Where each operand of a tree's list pushes its verdict and each operation takes the last two, a
+/// stack gains exactly the verdict on the tree, at its end.
+pub fn gains_one_verdict()
+    ensures { (tree : Tree) (leaves stack after : List Verdict) →
+        length leaves ≡ operand_count tree →
+        StackBecomes after (post_order tree) leaves stack ↔
+        (after ≡ stack ++ folded tree leaves ∷ []) }
+{}
+
+/// The trees that a tree's own list spells are that tree alone.
+pub fn spelling()
+    ensures { (tree : Tree) → trees_of_items (post_order tree) ≡ tree ∷ [] }
+{}
+
+/// The leaf of an operation's result, and of a tree, names a primitive exactly where its class is
+/// mixed, where those of its sides and operands do.
+pub fn leaves()
+    ensures operation { (o : Operation) (a b : Verdict) → IsVerdict a → IsVerdict b →
+        IsVerdict (verdict_of o a b) }
+    ensures tree { (tree : Tree) (leaves : List Verdict) → AllByRecursion IsVerdict leaves →
+        IsVerdict (folded tree leaves) }
 {}

@@ -1,6 +1,8 @@
 ghost use Rattle.std.specs.Prelude.{◌≡◌};
+ghost use Rattle.solid_base.specs.Classes.{IsVerdict};
 ghost use Rattle.solid_base.specs.Trees.{Operation, item_of};
-ghost use Rattle.boolean_tree.specs.Verdicts.{join_of, class_of, meet_of, reversed, verdict_of, IsOperation};
+ghost use Rattle.boolean_tree.specs.Verdicts.{join_of, meet_of, reversed, class_of};
+ghost use Rattle.boolean_tree.specs.Verdicts.{verdict_of, IsOperation};
 
 use solid_base::{Class, Item, Verdict};
 
@@ -59,7 +61,9 @@ fn class_after(item: &Item, a: Class, b: Class) -> Class
 /// The verdict on an operation's result, from those on its two sides.
 pub fn operate(item: &Item, a: &Verdict, b: &Verdict) -> Verdict
     requires { IsOperation item.now }
-    ensures { (o : Operation) → item.now ≡ item_of o → result ≡ verdict_of o a.now b.now }
+    ensures verdict { (o : Operation) → item.now ≡ item_of o →
+        result ≡ verdict_of o a.now b.now }
+    ensures leaf { IsVerdict a.now → IsVerdict b.now → IsVerdict result }
 {
     let class = class_after(item, a.class, b.class);
     let leaf = match (class, a.class) {

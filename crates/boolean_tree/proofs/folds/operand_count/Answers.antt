@@ -2,7 +2,7 @@ use Rattle.std.proofs.Common.{length, ap, arith}
 use Rattle.std.proofs.Math.ListN.{drop_of_length-le}
 use Rattle.solid_base.specs.References.{operands_of}
 use Rattle.boolean_tree.proofs.Steps.{not_operand}
-use Rattle.boolean_tree.proofs.Played.{counted_operand, counted_operation}
+use Rattle.boolean_tree.proofs.Counts.{counted_operand, counted_operation}
 use Rattle.boolean_tree.proofs.folds.operand_count.Goals as goal
 use Rattle.boolean_tree.proofs.folds.operand_count.Goals.{in-Operand, in_default}
 
