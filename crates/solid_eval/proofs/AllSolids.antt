@@ -1,40 +1,29 @@
 -- What holds of each primitive and is kept by each step of unfolding holds of each solid.
-use Rattle.std.proofs.Common.{◌≡◌, ℕ, zero, suc, ◌<◌, List, [], ◌∷◌, Some, inl, inr, refl, sym, subst, arith}
+use Rattle.std.proofs.Common.{◌≡◌, ℕ, zero, suc, ◌<◌, List, [], ◌∷◌, inl, inr, refl, sym, subst, arith}
 use Rattle.std.specs.List.{AllByRecursion}
 use Rattle.solid_base.specs.declared.entities.Entity.{Entity}
-use Rattle.solid_base.specs.declared.solids.Item.{Item}
-use Rattle.solid_base.specs.declared.solids.Item.TheVariants as item
 use Rattle.solid_base.specs.declared.solids.Placed.{Placed}
 use Rattle.solid_base.specs.declared.solids.Primitive.{Primitive}
 use Rattle.solid_base.specs.declared.solids.Row.{Row}
 use Rattle.solid_base.specs.declared.solids.Row.TheVariants as row
 use Rattle.solid_base.specs.References.{row_at}
 use Rattle.solid_base.specs.Ranges.{IsLawfulPrim, IsLawfulMatrix, IsLawfulRow}
-use Rattle.solid_base.specs.Trees.{Operation, union, intersection, difference}
+use Rattle.solid_base.specs.Trees.{Operation, union, Tree, operand, combination}
+use Rattle.boolean_tree.specs.Spelling.{trees_of_items}
 use Rattle.affine_pull.specs.Chains.{chain_of}
 use Rattle.affine_pull.proofs.LawfulChains.{lawful-row, lawful-chain}
-use Rattle.solid_eval.specs.Solids.{Solid, nothing, primitive, moved, entity, combined, on_two, grown, last_of, placed_item, united, row_solid, solid_within, solid_of, HasPrimitive}
+use Rattle.solid_eval.specs.Solids.{Solid, nothing, primitive, moved, entity, combined, last_solid, tree_solid, placed_item, united, row_solid, solid_within, solid_of, HasPrimitive}
 
 module _ (rows : List Entity) (P : Solid → Type 0) (none : P nothing) (one : (e matrix : ℕ) (p : Primitive) → row_at rows e ≡ row.Prim p matrix → P (primitive e p))
     (move : (m : ℕ) (part : Solid) → P part → P (moved (chain_of rows m) part)) (around : (e : ℕ) (part : Solid) → P part → P (entity e part))
     (both : (o : Operation) (a b : Solid) → P a → P b → P (combined o a b)) where
-  two-all : (child : ℕ → Solid) (items : List Item) → ((stack : List Solid) → AllByRecursion P stack → P (last_of (grown child items stack)))
-      → (o : Operation) (stack : List Solid) → AllByRecursion P stack → P (last_of (on_two o (grown child items) stack))
-  two-all child items go o [] h = none
-  two-all child items go o (b ∷ []) h = none
-  two-all child items go o (b ∷ a ∷ stack) h = go (combined o a b ∷ stack) (both o a b h.1.0 h.0, h.1.1)
+  tree-all : (child : ℕ → Solid) → ((c : ℕ) → P (child c)) → (t : Tree) → P (tree_solid child t)
+  tree-all child f (operand n) = f n
+  tree-all child f (combination o a b) = both o (tree_solid child a) (tree_solid child b) (tree-all child f a) (tree-all child f b)
 
-  last-all : (stack : List Solid) → AllByRecursion P stack → P (last_of (Some stack))
-  last-all [] h = none
-  last-all (s ∷ stack) h = h.0
-
-  grown-all : (child : ℕ → Solid) → ((c : ℕ) → P (child c)) → (items : List Item) (stack : List Solid) → AllByRecursion P stack → P (last_of (grown child items stack))
-  unfolding grown
-  grown-all child f [] stack h = last-all stack h
-  grown-all child f (item.Operand number ∷ items) stack h = grown-all child f items (child number ∷ stack) (f number, h)
-  grown-all child f (item.Join ∷ items) stack h = two-all child items (grown-all child f items) union stack h
-  grown-all child f (item.Meet ∷ items) stack h = two-all child items (grown-all child f items) intersection stack h
-  grown-all child f (item.Less ∷ items) stack h = two-all child items (grown-all child f items) difference stack h
+  last-all : (child : ℕ → Solid) → ((c : ℕ) → P (child c)) → (trees : List Tree) → P (last_solid child trees)
+  last-all child f [] = none
+  last-all child f (t ∷ trees) = tree-all child f t
 
   united-all : (child : ℕ → Solid) → ((c : ℕ) → P (child c)) → (before : Solid) (items : List Placed) → P before → P (united (chain_of rows) child before items)
   united-all child f before [] h = h
@@ -47,7 +36,7 @@ module _ (rows : List Entity) (P : Solid → Type 0) (none : P nothing) (one : (
   row-all child f e (row.Opaque kind form matrix text) is = none
   row-all child f e (row.Matrix form affine next) is = none
   row-all child f e (row.Prim p matrix) is = around e _ (move matrix _ (one e matrix p is))
-  row-all child f e (row.Tree items matrix) is = around e _ (move matrix _ (grown-all child f items [] tt))
+  row-all child f e (row.Tree items matrix) is = around e _ (move matrix _ (last-all child f (trees_of_items items)))
   row-all child f e (row.Assembly items matrix) is = around e _ (move matrix _ (united-all child f nothing items none))
   row-all child f e (row.Instance number matrix) is = around e _ (move matrix _ (f number))
 

@@ -1,5 +1,5 @@
 pub mod Counting
-pub mod Growing
+pub mod Operands
 pub mod Uniting
 pub mod Unfolding
 pub mod AllSolids
@@ -9,4 +9,5 @@ pub mod Mixed
 pub mod SameParts
 pub mod Levels
 pub mod Local
+pub mod Uses
 pub mod StandardFacts

@@ -12,7 +12,7 @@ use Rattle.solid_eval.specs.Solids.{row_solid, solid_within, solid_of}
 use Rattle.solid_eval.specs.Locality.{Agree}
 use Rattle.solid_eval.proofs.SameParts.{same_row}
 
-all_named : (P : ℕ → Type 0) (cs : List ℕ) → ((c : ℕ) → Contains cs c → P c) → AllByRecursion P cs
+pub all_named : (P : ℕ → Type 0) (cs : List ℕ) → ((c : ℕ) → Contains cs c → P c) → AllByRecursion P cs
 all_named P [] h = tt
 all_named P (c ∷ cs) h = (h c (0, omega arith, refl), all_named P cs (λ d i. h d (suc i.0, omega (arith, i.1), i.2)))
 

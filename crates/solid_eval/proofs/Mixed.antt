@@ -1,35 +1,20 @@
 -- The leaf of a mixed verdict is the number of a primitive of the solid.
-use Rattle.std.proofs.Common.{◌≡◌, ◌≢◌, ◌⊎◌, ℕ, inl, inr, refl, sym, subst}
+use Rattle.std.proofs.Common.{◌≡◌, ◌≢◌, ◌⊎◌, ◌<◌, ℕ, List, Result, Ok, Err, IfOk, inl, inr, refl, sym, subst}
 use Rattle.solid_base.specs.declared.classes.Class.{Class}
 use Rattle.solid_base.specs.declared.classes.Class.TheVariants.{Outside, Mixed, Inside}
-use Rattle.solid_base.specs.Trees.{Operation, union, intersection, difference}
+use Rattle.solid_base.specs.declared.classes.Verdict.{Verdict}
+use Rattle.solid_base.specs.declared.entities.Entity.{Entity}
+use Rattle.solid_base.specs.Classes.{IsLeafOf, IsVerdict}
+use Rattle.solid_base.specs.Trees.{Operation}
 use Rattle.fixed_enclosure.specs.Places.{Span3}
 use Rattle.csg_primitives.specs.WrittenMargins.{span_class, written_margins}
-use Rattle.boolean_tree.specs.Verdicts.{join_of, meet_of, reversed, class_of, leaf_of}
+use Rattle.boolean_tree.specs.Verdicts.{class_of, leaf_of}
+use Rattle.boolean_tree.proofs.Leaves.{other_mixed}
 use Rattle.affine_pull.specs.Chains.{spans_through}
-use Rattle.solid_eval.specs.Solids.{Solid, nothing, primitive, moved, entity, combined, HasPrimitive}
+use Rattle.solid_eval.specs.Solids.{Solid, nothing, primitive, moved, entity, combined, solid_of, HasPrimitive}
 use Rattle.solid_eval.specs.Written.{named, written}
-
-meet_mixed : (k l : Class) → meet_of k l ≡ Mixed → k ≢ Mixed → l ≡ Mixed
-meet_mixed Outside l is n = absurd cc
-meet_mixed Mixed l is n = absurd (n refl)
-meet_mixed Inside l is n = is
-
-join_mixed : (k l : Class) → join_of k l ≡ Mixed → k ≢ Mixed → l ≡ Mixed
-join_mixed Outside l is n = is
-join_mixed Mixed l is n = absurd (n refl)
-join_mixed Inside l is n = absurd cc
-
-reversed_mixed : (l : Class) → reversed l ≡ Mixed → l ≡ Mixed
-reversed_mixed Outside is = absurd cc
-reversed_mixed Mixed is = refl
-reversed_mixed Inside is = absurd cc
-
--- where the first side isn't Mixed, the second one is
-other_mixed : (o : Operation) (k l : Class) → class_of o k l ≡ Mixed → k ≢ Mixed → l ≡ Mixed
-other_mixed union k l is n = join_mixed k l is n
-other_mixed intersection k l is n = meet_mixed k l is n
-other_mixed difference k l is n = reversed_mixed l (meet_mixed k (reversed l) is n)
+use Rattle.solid_eval.proofs.AllSolids.{numbered-solid}
+use Rattle.solid_eval.proofs.Sound.{leaf_zero}
 
 -- the leaf is that of a side that is Mixed
 side : (o : Operation) (k l : Class) (i j : ℕ) → class_of o k l ≡ Mixed
@@ -53,3 +38,18 @@ mixed_leaf_stands (combined o a b) s is = of_side (side o (written a s).class (w
       → ((written a s).class ≡ Mixed → HasPrimitive a (written a s).leaf) → ((written b s).class ≡ Mixed → HasPrimitive b (written b s).leaf) → HasPrimitive a leaf ⊎ HasPrimitive b leaf
   of_side (inl h) f g = inl (subst (HasPrimitive a) (sym h.1) (f h.0))
   of_side (inr h) f g = inr (subst (HasPrimitive b) (sym h.1) (g h.0))
+
+-- ---- a verdict names a primitive exactly where its class is mixed
+leaf_of_class : (k : Class) (n : ℕ) → (k ≡ Mixed → 0 < n) → (k ≢ Mixed → n ≡ 0) → IsLeafOf k n
+leaf_of_class Outside n some none = none (λ e. cc)
+leaf_of_class Mixed n some none = some refl
+leaf_of_class Inside n some none = none (λ e. cc)
+
+pub is_verdict : (rows : List Entity) (e : ℕ) (s : Span3) → IsVerdict (written (solid_of rows e) s)
+is_verdict rows e s =
+    leaf_of_class _ _ (λ mixed. numbered-solid rows e _ (mixed_leaf_stands (solid_of rows e) s mixed)) (leaf_zero (solid_of rows e) s)
+
+-- and so does what a call answers
+pub answers_verdict : {E : Type 0} (result : Result Verdict E) (rows : List Entity) (e : ℕ) (s : Span3) → IfOk result (λ v. v ≡ written (solid_of rows e) s) → IfOk result IsVerdict
+answers_verdict (Ok v) rows e s is = subst IsVerdict (sym is) (is_verdict rows e s)
+answers_verdict (Err x) rows e s is = tt

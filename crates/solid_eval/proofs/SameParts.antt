@@ -2,23 +2,24 @@
 use Rattle.std.proofs.Common.{◌≡◌, ℕ, zero, suc, List, [], ◌∷◌, ◌++◌, map, refl, ap, ◌∙◌}
 use Rattle.std.specs.List.{AllByRecursion}
 use Rattle.solid_base.specs.declared.geometry.Affine.{Affine}
+use Rattle.solid_base.specs.declared.references.Reference.{Reference}
+use Rattle.solid_base.specs.declared.references.Reference.TheVariants as reference
 use Rattle.solid_base.specs.declared.solids.Item.{Item}
-use Rattle.solid_base.specs.declared.solids.Item.TheVariants as item
 use Rattle.solid_base.specs.declared.solids.Placed.{Placed}
 use Rattle.solid_base.specs.declared.solids.Row.{Row}
 use Rattle.solid_base.specs.declared.solids.Row.TheVariants as row
-use Rattle.solid_base.specs.declared.references.Reference.{Reference}
-use Rattle.solid_base.specs.declared.references.Reference.TheVariants as reference
 use Rattle.solid_base.specs.References.{target, matrix_named, operands_of, items_of, matrices_of, references_of, references}
-use Rattle.solid_base.specs.Trees.{Operation, union, intersection, difference}
-use Rattle.solid_eval.specs.Solids.{Solid, nothing, moved, entity, combined, on_two, grown, last_of, spelt, placed_item, united, row_solid}
+use Rattle.solid_base.specs.Trees.{union, Tree, operand}
+use Rattle.boolean_tree.specs.Spelling.{trees_of_items}
+use Rattle.boolean_tree.proofs.Spelling.{all_trees}
+use Rattle.solid_eval.specs.Solids.{Solid, nothing, moved, entity, combined, last_solid, tree_solid, solid_of_items, placed_item, united, row_solid}
 
 -- ---- all of some references
-all_right : (P : ℕ → Type 0) (a b : List Reference) → AllByRecursion P (map target (a ++ b)) → AllByRecursion P (map target b)
+pub all_right : (P : ℕ → Type 0) (a b : List Reference) → AllByRecursion P (map target (a ++ b)) → AllByRecursion P (map target b)
 all_right P [] b h = h
 all_right P (r ∷ a) b h = all_right P a b h.1
 
-all_left : (P : ℕ → Type 0) (a b : List Reference) → AllByRecursion P (map target (a ++ b)) → AllByRecursion P (map target a)
+pub all_left : (P : ℕ → Type 0) (a b : List Reference) → AllByRecursion P (map target (a ++ b)) → AllByRecursion P (map target a)
 all_left P [] b h = tt
 all_left P (r ∷ a) b h = (h.0, all_left P a b h.1)
 
@@ -31,18 +32,18 @@ module _ (chain other : ℕ → List Affine) (f g : ℕ → Solid) (none : chain
   same_matrix zero h = none
   same_matrix (suc m) h = h.0.0
 
-  same_two : (o : Operation) (items : List Item) → ((stack : List Solid) → grown f items stack ≡ grown g items stack) → (stack : List Solid) → on_two o (grown f items) stack ≡ on_two o (grown g items) stack
-  same_two o items h [] = refl
-  same_two o items h (b ∷ []) = refl
-  same_two o items h (b ∷ a ∷ stack) = h (combined o a b ∷ stack)
+  same_tree : (ns : List ℕ) → AllByRecursion Same ns → AllByRecursion (λ n. tree_solid f (operand n) ≡ tree_solid g (operand n)) ns
+  same_tree [] h = tt
+  same_tree (n ∷ ns) h = (h.0.1, same_tree ns h.1)
 
-  same_grown : (items : List Item) → AllByRecursion Same (map target (operands_of items)) → (stack : List Solid) → grown f items stack ≡ grown g items stack
-  unfolding grown
-  same_grown [] h stack = refl
-  same_grown (item.Operand number ∷ items) h stack = same_grown items h.1 (f number ∷ stack) ∙ ap (λ s. grown g items (s ∷ stack)) h.0.1
-  same_grown (item.Join ∷ items) h stack = same_two union items (same_grown items h) stack
-  same_grown (item.Meet ∷ items) h stack = same_two intersection items (same_grown items h) stack
-  same_grown (item.Less ∷ items) h stack = same_two difference items (same_grown items h) stack
+  same_last : (trees : List Tree) → AllByRecursion (λ t. tree_solid f t ≡ tree_solid g t) trees → last_solid f trees ≡ last_solid g trees
+  same_last [] h = refl
+  same_last (t ∷ trees) h = h.0
+
+  same_items : (items : List Item) → AllByRecursion Same (map target (operands_of items)) → solid_of_items f items ≡ solid_of_items g items
+  same_items items h =
+      same_last (trees_of_items items)
+      (all_trees (λ t. tree_solid f t ≡ tree_solid g t) (λ o a b x y. ap (λ s. combined o s (tree_solid f b)) x ∙ ap (combined o (tree_solid g a)) y) items (same_tree (map target (operands_of items)) h))
 
   same_united : (before : Solid) (items : List Placed) → AllByRecursion Same (map target (items_of items)) → AllByRecursion Same (map target (matrices_of items)) → united chain f before items ≡ united other g before items
   same_united before [] h k = refl
@@ -61,8 +62,8 @@ module _ (chain other : ℕ → List Affine) (f g : ℕ → Solid) (none : chain
   same_row e (row.Matrix form affine next) h = refl
   same_row e (row.Prim p matrix) h = same_moved e matrix _ _ (same_matrix matrix h) refl
   same_row e (row.Tree items matrix) h =
-      let grow = same_grown items (all_right Same (matrix_named matrix) (operands_of items) h) [] in
-      same_moved e matrix (spelt f items) (spelt g items) (same_matrix matrix (all_left Same (matrix_named matrix) (operands_of items) h)) (ap last_of grow)
+      same_moved e matrix (solid_of_items f items) (solid_of_items g items) (same_matrix matrix (all_left Same (matrix_named matrix) (operands_of items) h))
+      (same_items items (all_right Same (matrix_named matrix) (operands_of items) h))
   same_row e (row.Assembly items matrix) h =
       let parts = all_right Same (matrix_named matrix) (items_of items ++ matrices_of items) h in
       same_moved e matrix (united chain f nothing items) (united other g nothing items) (same_matrix matrix (all_left Same (matrix_named matrix) (items_of items ++ matrices_of items) h))

@@ -8,8 +8,9 @@ use Rattle.solid_base.specs.declared.solids.Row.{Row}
 use Rattle.solid_base.specs.declared.solids.Row.TheVariants as row
 use Rattle.solid_base.specs.References.{row_at}
 use Rattle.solid_base.specs.Trees.{union, difference}
+use Rattle.boolean_tree.specs.Spelling.{trees_of_items}
 use Rattle.affine_pull.specs.Chains.{chain_within, chain_of}
-use Rattle.solid_eval.specs.Solids.{Solid, nothing, primitive, moved, entity, combined, grown, solid_within, solid_of}
+use Rattle.solid_eval.specs.Solids.{Solid, nothing, primitive, moved, entity, combined, solid_within, solid_of}
 
 abbrev of_row : Row → Entity
 of_row r = record { row = r; attrs = []; tail = [] }
@@ -36,7 +37,7 @@ module _ (p : Primitive) (first second : Affine) where
 
   -- the operands stand in the order of the list
   pub tree : solid_of (model (row.Tree (item.Operand 1 ∷ item.Operand 9 ∷ item.Less ∷ []) 0)) 7 ≡ entity 7 (moved [] (combined difference part nothing))
-  unfolding row_at chain_of chain_within solid_of solid_within grown
+  unfolding row_at chain_of chain_within solid_of solid_within trees_of_items
   tree = refl
 
   -- a matrix, and a number that no entity has, are no solids

@@ -1,5 +1,6 @@
 pub mod Solids
 pub mod Classes
 pub mod Written
+pub mod Uses
 pub mod Ticks
 pub mod Locality

@@ -1,16 +1,16 @@
 -- The plain tree that an entity unfolds into along its references. Each meaning of an entity is a recursion on that tree.
-use Rattle.std.specs.Prelude.{◌≡◌, ◌⊎◌, ℕ, zero, suc, List, [], ◌∷◌, Option, None, Some}
+use Rattle.std.specs.Prelude.{◌≡◌, ◌⊎◌, ℕ, zero, suc, List, [], ◌∷◌}
 use Rattle.solid_base.specs.declared.entities.Entity.{Entity}
 use Rattle.solid_base.specs.declared.geometry.Affine.{Affine}
 use Rattle.solid_base.specs.declared.solids.Item.{Item}
-use Rattle.solid_base.specs.declared.solids.Item.TheVariants as item
 use Rattle.solid_base.specs.declared.solids.Placed.{Placed}
 use Rattle.solid_base.specs.declared.solids.Primitive.{Primitive}
 use Rattle.solid_base.specs.declared.solids.Row.{Row}
 use Rattle.solid_base.specs.declared.solids.Row.TheVariants as row
 use Rattle.solid_base.specs.References.{row_at}
 use Rattle.solid_base.specs.Graph.{most_levels}
-use Rattle.solid_base.specs.Trees.{Operation, union, intersection, difference, Tree, operand, combination}
+use Rattle.solid_base.specs.Trees.{Operation, union, Tree, operand, combination}
+use Rattle.boolean_tree.specs.Spelling.{trees_of_items}
 use Rattle.affine_pull.specs.Chains.{chain_of}
 
 -- solidd's own: nothing; a primitive with its entity's number; a part that a chain of matrices moves; the part that is an entity; an operation on two parts, the left one first
@@ -23,34 +23,19 @@ pub data Solid : Type 0 where
 
 -- ---- Boolean trees
 
--- IGES 5.3, type 180: an operation takes the last two of the solids at hand, of which the last one stands first, and then it goes on; nothing comes of fewer than two
-abbrev pub on_two : Operation → (List Solid → Option (List Solid)) → List Solid → Option (List Solid)
-on_two o go [] = None
-on_two o go (b ∷ []) = None
-on_two o go (b ∷ a ∷ stack) = go (combined o a b ∷ stack)
-
--- IGES 5.3, type 180: the solids that a post-order list leaves at hand, where an operand adds its solid; nothing where an operation lacks a side
-unfoldable pub grown : (ℕ → Solid) → List Item → List Solid → Option (List Solid)
-grown child [] stack = Some stack
-grown child (item.Operand number ∷ items) stack = grown child items (child number ∷ stack)
-grown child (item.Join ∷ items) stack = on_two union (grown child items) stack
-grown child (item.Meet ∷ items) stack = on_two intersection (grown child items) stack
-grown child (item.Less ∷ items) stack = on_two difference (grown child items) stack
-
--- solidd's own: the last one of the solids at hand
-abbrev pub last_of : Option (List Solid) → Solid
-last_of None = nothing
-last_of (Some []) = nothing
-last_of (Some (s ∷ stack)) = s
-
--- IGES 5.3, type 180: the solid that a list of items spells
-abbrev pub spelt : (ℕ → Solid) → List Item → Solid
-spelt child items = last_of (grown child items [])
-
 -- IGES 5.3, type 180: the solid of a tree, by recursion on it
 abbrev pub tree_solid : (ℕ → Solid) → Tree → Solid
 tree_solid child (operand number) = child number
 tree_solid child (combination o a b) = combined o (tree_solid child a) (tree_solid child b)
+
+-- IGES 5.3, type 180: the solid of the last of some trees, which stands first; nothing of none
+abbrev pub last_solid : (ℕ → Solid) → List Tree → Solid
+last_solid child [] = nothing
+last_solid child (tree ∷ trees) = tree_solid child tree
+
+-- IGES 5.3, type 180: the solid of the tree that a list of items spells
+abbrev pub solid_of_items : (ℕ → Solid) → List Item → Solid
+solid_of_items child items = last_solid child (trees_of_items items)
 
 -- ---- assemblies
 
@@ -71,7 +56,8 @@ row_solid chain child e row.Null = nothing
 row_solid chain child e (row.Opaque kind form matrix text) = nothing
 row_solid chain child e (row.Matrix form affine next) = nothing
 row_solid chain child e (row.Prim p matrix) = entity e (moved (chain matrix) (primitive e p))
-row_solid chain child e (row.Tree items matrix) = entity e (moved (chain matrix) (spelt child items))
+row_solid chain child e (row.Tree items matrix) =
+    entity e (moved (chain matrix) (solid_of_items child items))
 row_solid chain child e (row.Assembly items matrix) = entity e (moved (chain matrix) (united chain child nothing items))
 -- IGES 5.3, type 430: an instance is the solid that it names, moved by its own chain after that solid's
 row_solid chain child e (row.Instance number matrix) = entity e (moved (chain matrix) (child number))

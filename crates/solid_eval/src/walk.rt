@@ -1,37 +1,38 @@
-ghost use Rattle.std.specs.Prelude.{◌≡◌, IfOk, OnOk, map, sum_by};
+ghost use Rattle.std.specs.Prelude.{◌≡◌, IfOk, OnOk};
 ghost use Rattle.std.specs.List.{AllByRecursion};
+ghost use Rattle.solid_base.specs.Classes.{IsVerdict};
+ghost use Rattle.solid_base.specs.Ledgers.{counted, RisesUpTo};
 ghost use Rattle.solid_base.specs.Ranges.{IsLawfulPrim, IsLawfulRow};
-ghost use Rattle.solid_base.specs.References.{target, operands_of, items_of};
-ghost use Rattle.solid_base.specs.Graph.{weight_within, weight_of, most_weight};
+ghost use Rattle.solid_base.specs.Graph.{weight_of, most_weight};
 ghost use Rattle.solid_base.specs.Trees.{IsPostOrder, union};
 ghost use Rattle.fixed_enclosure.specs.Spans.{IsBox};
 ghost use Rattle.fixed_enclosure.specs.Places.{spans_of};
 ghost use Rattle.csg_primitives.specs.WrittenMargins.{written_class};
 ghost use Rattle.boolean_tree.specs.Verdicts.{outside, verdict_of};
 ghost use Rattle.affine_pull.specs.Chains.{chain_of};
-ghost use Rattle.solid_eval.specs.Solids.{nothing, spelt, united, solid_within, solid_of};
+ghost use Rattle.solid_eval.specs.Solids.{nothing, solid_of_items, united, solid_within, solid_of};
+ghost use Rattle.solid_eval.specs.Uses.{leaf_count};
 ghost use Rattle.solid_eval.specs.Written.{named, written};
-ghost use Rattle.solid_eval.specs.Ticks.{RisesUpTo};
 
 use affine_pull::pull_chain;
 use boolean_tree::{apply, operate};
 use csg_primitives::leaf;
 use entity_graph::Graph;
 use fixed_enclosure::Box3;
-use solid_base::{Class, Item, Items, Ledger, PlacedList, Prim, Row, Rows, Verdict, Verdicts};
+use solid_base::{
+    Class, Item, Items, Ledger, MOST_LEVELS, PlacedList, Prim, Row, Rows, Verdict, Verdicts,
+};
 use std::alloc::{AllocError, Global};
-
-/// The most levels that a model may have.
-const MOST_LEVELS: u32 = 64;
 
 const OUTSIDE: Verdict = Verdict {
     class: Class::Outside,
     leaf: 0,
 };
 
-/// The verdict on an entity over a box, each primitive being evaluated as often as it stands: at
-/// most as many evaluations are counted as the entity weighs, and so at most 2^20. The graph is that
-/// of the rows. AllocError when out of memory.
+/// The verdict on an entity over a box. Each primitive is evaluated and counted on the ledger once
+/// for each time that it stands in the entity's solid: as often as the entity weighs where it
+/// reaches nothing unread, and never more often, so at most 2^20 times. The graph is that of the
+/// rows. AllocError when out of memory; the ledger may then have risen by at most as much.
 #[tactic(auto, unfolding(crate::specs::Solids::solid_of))]
 pub fn afresh<L: Ledger>(
     alloc: Global,
@@ -45,6 +46,11 @@ pub fn afresh<L: Ledger>(
     requires graph { graph.now ≡ rows.now }
     requires at { IsBox at.now }
     ensures verdict { IfOk result (λ v. v ≡ written (solid_of rows.now e) (spans_of at.now)) }
+    ensures leaf { IfOk result IsVerdict }
+    ensures counted { OnOk result (L.count leaves.new ≡
+        counted (L.count leaves.old) (leaf_count (solid_of rows.now e))) }
+    ensures most { RisesUpTo (L.count leaves.old) (L.count leaves.new)
+        (leaf_count (solid_of rows.now e)) }
     ensures ledger { RisesUpTo (L.count leaves.old) (L.count leaves.new) (weight_of rows.now e) }
     ensures light { RisesUpTo (L.count leaves.old) (L.count leaves.new) most_weight }
 {
@@ -69,8 +75,10 @@ fn entity_verdict<L: Ledger>(
     ensures verdict { IfOk result (λ v.
         v ≡ written (solid_within levels rows.now e) (spans_of at.now)) }
     ensures kept { OnOk result (stack.new.list ≡ stack.old.list) }
-    ensures ledger { RisesUpTo (L.count leaves.old) (L.count leaves.new)
-        (weight_within levels rows.now e) }
+    ensures counted { OnOk result (L.count leaves.new ≡
+        counted (L.count leaves.old) (leaf_count (solid_within levels rows.now e))) }
+    ensures most { RisesUpTo (L.count leaves.old) (L.count leaves.new)
+        (leaf_count (solid_within levels rows.now e)) }
 {
     if levels == 0 {
         return Ok(OUTSIDE);
@@ -102,7 +110,8 @@ fn primitive_verdict<L: Ledger>(e: u32, prim: &Prim, at: &Box3, leaves: &mut L) 
     requires prim { IsLawfulPrim prim.now }
     requires at { IsBox at.now }
     ensures verdict { result ≡ named e (written_class prim.now at.now) }
-    ensures ledger { RisesUpTo (L.count leaves.old) (L.count leaves.new) 1 }
+    ensures counted { L.count leaves.new ≡ counted (L.count leaves.old) 1 }
+    ensures most { RisesUpTo (L.count leaves.old) (L.count leaves.new) 1 }
 {
     let class = leaf(prim, at, leaves);
     Verdict {
@@ -125,10 +134,12 @@ fn tree_verdict<L: Ledger>(
     requires tree { IsPostOrder items.now }
     requires at { IsBox at.now }
     ensures verdict { IfOk result (λ v.
-        v ≡ written (spelt (solid_within levels rows.now) items.now) (spans_of at.now)) }
+        v ≡ written (solid_of_items (solid_within levels rows.now) items.now) (spans_of at.now)) }
     ensures kept { OnOk result (stack.new.list ≡ stack.old.list) }
-    ensures ledger { RisesUpTo (L.count leaves.old) (L.count leaves.new)
-        (sum_by (weight_within levels rows.now) (map target (operands_of items.now))) }
+    ensures counted { OnOk result (L.count leaves.new ≡ counted (L.count leaves.old)
+        (leaf_count (solid_of_items (solid_within levels rows.now) items.now))) }
+    ensures most { RisesUpTo (L.count leaves.old) (L.count leaves.new)
+        (leaf_count (solid_of_items (solid_within levels rows.now) items.now)) }
 {
     for item in items.as_slice() {
         match item {
@@ -158,8 +169,10 @@ fn assembly_verdict<L: Ledger>(
         v ≡ written (united (chain_of rows.now) (solid_within levels rows.now) nothing items.now)
         (spans_of at.now)) }
     ensures kept { OnOk result (stack.new.list ≡ stack.old.list) }
-    ensures ledger { RisesUpTo (L.count leaves.old) (L.count leaves.new)
-        (sum_by (weight_within levels rows.now) (map target (items_of items.now))) }
+    ensures counted { OnOk result (L.count leaves.new ≡ counted (L.count leaves.old) (leaf_count
+        (united (chain_of rows.now) (solid_within levels rows.now) nothing items.now))) }
+    ensures most { RisesUpTo (L.count leaves.old) (L.count leaves.new)
+        (leaf_count (united (chain_of rows.now) (solid_within levels rows.now) nothing items.now)) }
 {
     let mut all = OUTSIDE;
     for placed in items.as_slice() {

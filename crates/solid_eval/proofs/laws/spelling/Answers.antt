@@ -1,4 +1,4 @@
-use Rattle.solid_eval.proofs.Growing.{spelt_tree}
+use Rattle.solid_eval.proofs.Operands.{spelt_tree}
 use Rattle.solid_eval.proofs.laws.spelling.Goals as goal
 
 pub returns : goal.returns

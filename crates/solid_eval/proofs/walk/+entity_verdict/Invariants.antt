@@ -1,11 +1,12 @@
-use Rattle.std.proofs.Common.{◌≡◌, ◌+◌, ◌*◌, drop, map, sum_by}
+use Rattle.std.proofs.Common.{◌≡◌, ◌+◌, ◌*◌, List, drop, map, sum_by}
+use Rattle.solid_base.specs.declared.classes.Verdict.{Verdict}
 use Rattle.solid_base.specs.References.{target, operands_of, items_of}
-use Rattle.solid_base.specs.Graph.{weight_within}
 use Rattle.fixed_enclosure.specs.Places.{spans_of}
 use Rattle.affine_pull.specs.Chains.{chain_of}
 use Rattle.solid_eval.specs.Solids.{solid_within}
-use Rattle.solid_eval.proofs.Counting.{Rising}
-use Rattle.solid_eval.proofs.Growing.{Growing}
+use Rattle.solid_eval.specs.Uses.{leaf_count}
+use Rattle.solid_eval.proofs.Counting.{Ticking}
+use Rattle.solid_eval.proofs.Operands.{Rest}
 use Rattle.solid_eval.proofs.Uniting.{Uniting}
 use Rattle.solid_eval.proofs.walk.+entity_verdict.Given as goal
 
@@ -22,13 +23,14 @@ abbrev pub invariant-assembly_verdict-loop-placed : goal.invariant-assembly_verd
 invariant-assembly_verdict-loop-placed g l = record {
   kept : l.stack.list ≡ l.fn.stack.list;
   union : Uniting (chain_of l.rows) (solid_within l.levels l.rows) l.placed-items (spans_of l.at) l.all (drop l.placed-index l.placed-items);
-  ticks : Rising (g.L.Ledger.count l.fn.leaves) (g.L.Ledger.count l.leaves) (sum_by (weight_within l.levels l.rows) (map target (items_of l.placed-items)))
-      (sum_by (weight_within l.levels l.rows) (map target (items_of (drop l.placed-index l.placed-items))));
+  ticks : Ticking (g.L.Ledger.count l.fn.leaves) (g.L.Ledger.count l.leaves) (sum_by (λ n. leaf_count (solid_within l.levels l.rows n)) (map target (items_of l.placed-items)))
+      (sum_by (λ n. leaf_count (solid_within l.levels l.rows n)) (map target (items_of (drop l.placed-index l.placed-items))));
 }
 
 abbrev pub invariant-tree_verdict-loop-item : goal.invariant-tree_verdict-loop-item
 invariant-tree_verdict-loop-item g l = record {
-  tree : Growing (solid_within l.levels l.rows) l.item-items (spans_of l.at) l.fn.stack.list l.stack.list (drop l.item-index l.item-items);
-  ticks : Rising (g.L.Ledger.count l.fn.leaves) (g.L.Ledger.count l.leaves) (sum_by (weight_within l.levels l.rows) (map target (operands_of l.item-items)))
-      (sum_by (weight_within l.levels l.rows) (map target (operands_of (drop l.item-index l.item-items))));
+  rest : (after : List Verdict) → Rest (solid_within l.levels l.rows) (spans_of l.at) after l.item-items l.fn.stack.list
+      → Rest (solid_within l.levels l.rows) (spans_of l.at) after (drop l.item-index l.item-items) l.stack.list;
+  ticks : Ticking (g.L.Ledger.count l.fn.leaves) (g.L.Ledger.count l.leaves) (sum_by (λ n. leaf_count (solid_within l.levels l.rows n)) (map target (operands_of l.item-items)))
+      (sum_by (λ n. leaf_count (solid_within l.levels l.rows n)) (map target (operands_of (drop l.item-index l.item-items))));
 }
