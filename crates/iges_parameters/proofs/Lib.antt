@@ -4,6 +4,8 @@ pub mod UnitLengths
 pub mod WholeFields
 pub mod RuleLoops
 pub mod TailLoop
+pub mod FieldsLeft
+pub mod TailKept
 pub mod ItemsSteps
 pub mod ItemsParts
 pub mod ItemsLoop

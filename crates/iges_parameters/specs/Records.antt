@@ -3,13 +3,14 @@ use Rattle.std.specs.Prelude.{◌≡◌, ℕ, ◌+◌, List, [], ◌∷◌, ◌+
 use Rattle.std.specs.Ordering.{int_eq}
 use Rattle.solid_base.specs.declared.entities.Token.{Token}
 use Rattle.solid_base.specs.declared.entities.Token.TheVariants as token
+use Rattle.solid_base.specs.declared.entities.RowText.{RowText}
 use Rattle.solid_base.specs.declared.solids.Row.{Row}
 use Rattle.solid_base.specs.declared.solids.Row.TheVariants as row
 use Rattle.iges_parameters.specs.declared.faults.RowFault.{RowFault}
 use Rattle.iges_parameters.specs.declared.faults.RowFault.TheVariants as fault
 use Rattle.iges_fields.specs.declared.kinds.Field.{Field}
 use Rattle.solid_base.specs.Outcomes.{◌>>=◌}
-use Rattle.iges_parameters.specs.RecordFields.{token_of}
+use Rattle.iges_parameters.specs.RecordFields.{token_of, fields_of}
 use Rattle.iges_parameters.specs.Rules.{Place, token_at, integer_of, numbers_by, parameter}
 use Rattle.iges_parameters.specs.Tables.{is_read, matrix_rules, instance_rules}
 use Rattle.iges_parameters.specs.Rows.{prim_at, affine_of, checked_affine}
@@ -73,3 +74,7 @@ with_tail r = tail_from [] r.1.index r.1.fields >>= λ tail. Ok (r.0, tail)
 unfoldable pub record_of : ℕ → ℕ → ℕ → List (Option Token) → Result (Row × List Token) RowFault
 record_of kind form matrix fields =
     cond (is_read kind form) (type_at kind (record { index = 0; fields = fields }) >>= λ p. row_at kind form matrix p >>= with_tail) (Err fault.NotRead)
+
+-- the row of an entity's record in a file with these delimiters, and the fields after its parameters; or the first fault
+abbrev pub record_in : ℕ → ℕ → RowText → Result (Row × List Token) RowFault
+record_in comma semi source = record_of source.kind source.form source.matrix (fields_of comma semi source.text)

@@ -13,6 +13,6 @@ mod tables;
 mod writing;
 
 pub use faults::RowFault;
-pub use reading::records::read_row;
+pub use reading::records::{read_known_row, read_row};
 pub use tables::is_read;
 pub use writing::written_rows::{row_line_count, row_lines};

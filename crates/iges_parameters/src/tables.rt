@@ -1,5 +1,5 @@
 ghost use Rattle.std.specs.Prelude.{◌≡◌};
-ghost use Rattle.iges_parameters.specs.Tables.{block_rules, wedge_rules, cylinder_rules, cone_rules, sphere_rules, torus_rules, ellipsoid_rules, matrix_rules, instance_rules, list_rules, is_read};
+ghost use Rattle.iges_parameters.specs.Tables.{block_rules, wedge_rules, cylinder_rules, cone_rules, sphere_rules, torus_rules, ellipsoid_rules, is_read};
 
 use solid_base::U;
 
@@ -163,15 +163,15 @@ const ELLIPSOID: ParamTable<12> = ParamTable {
 };
 
 /// Type 124: R11 R12 R13 T1 R21 R22 R23 T2 R31 R32 R33 T3.
-const MATRIX: ParamTable<12> = ParamTable {
+pub const MATRIX_TABLE: ParamTable<12> = ParamTable {
     rules: [NEEDED; 12],
 };
 
 /// Type 430: the number of the solid.
-const INSTANCE: ParamTable<1> = ParamTable { rules: [NUMBER] };
+pub const INSTANCE_TABLE: ParamTable<1> = ParamTable { rules: [NUMBER] };
 
 /// Types 180 and 184: how many items follow.
-const LIST: ParamTable<1> = ParamTable { rules: [COUNT] };
+pub const LIST_TABLE: ParamTable<1> = ParamTable { rules: [COUNT] };
 
 #[tactic(auto, unfolding(crate::specs::Tables::block_rules))]
 pub fn block_table() -> ParamTable<12>
@@ -220,27 +220,6 @@ pub fn ellipsoid_table() -> ParamTable<12>
     ensures { result.rules ≡ ellipsoid_rules }
 {
     ELLIPSOID
-}
-
-#[tactic(auto, unfolding(crate::specs::Tables::matrix_rules))]
-pub fn matrix_table() -> ParamTable<12>
-    ensures { result.rules ≡ matrix_rules }
-{
-    MATRIX
-}
-
-#[tactic(auto, unfolding(crate::specs::Tables::instance_rules))]
-pub fn instance_table() -> ParamTable<1>
-    ensures { result.rules ≡ instance_rules }
-{
-    INSTANCE
-}
-
-#[tactic(auto, unfolding(crate::specs::Tables::list_rules))]
-pub fn list_table() -> ParamTable<1>
-    ensures { result.rules ≡ list_rules }
-{
-    LIST
 }
 
 /// Whether entities of this type and form are read: form 0 of the primitives (types 150, 152, 154, 156,

@@ -1,6 +1,6 @@
 ghost use Rattle.std.specs.Prelude.{◌≡◌, ◌<◌, ◌↔◌, ◌^◌, ◌*◌, ◌*ℤ◌, IsTrue, IfOk};
 ghost use Rattle.solid_base.specs.Range.{IsWithin, IsPointWithin};
-ghost use Rattle.solid_base.specs.Ranges.{dot, column1, column2, column3};
+ghost use Rattle.solid_base.specs.Ranges.{dot};
 ghost use Rattle.solid_base.specs.Outcomes.{Gives};
 ghost use Rattle.iges_parameters.specs.Rows.{is_small, is_unit, is_right_angle, are_orthonormal, with_axis, with_axes, checked_prim, checked_affine};
 
@@ -113,42 +113,12 @@ fn are_orthonormal(a: &Vec3, b: &Vec3, c: &Vec3) -> bool
         && is_right_angle(b, c)
 }
 
-fn column1(a: &Affine) -> Vec3
-    ensures { result ≡ column1 a.now }
-{
-    Vec3 {
-        x: a.row1.x,
-        y: a.row2.x,
-        z: a.row3.x,
-    }
-}
-
-fn column2(a: &Affine) -> Vec3
-    ensures { result ≡ column2 a.now }
-{
-    Vec3 {
-        x: a.row1.y,
-        y: a.row2.y,
-        z: a.row3.y,
-    }
-}
-
-fn column3(a: &Affine) -> Vec3
-    ensures { result ≡ column3 a.now }
-{
-    Vec3 {
-        x: a.row1.z,
-        y: a.row2.z,
-        z: a.row3.z,
-    }
-}
-
 /// A matrix whose columns are of unit length and at right angles. Else BadMatrix.
 #[tactic(auto, unfolding(crate::specs::Rows::checked_affine))]
 pub fn checked_affine(affine: Affine) -> Result<Affine, RowFault>
     ensures { Gives (λ a. a) result (checked_affine affine) }
 {
-    if are_orthonormal(&column1(&affine), &column2(&affine), &column3(&affine)) {
+    if are_orthonormal(&affine.column1(), &affine.column2(), &affine.column3()) {
         Ok(affine)
     } else {
         Err(RowFault::BadMatrix)

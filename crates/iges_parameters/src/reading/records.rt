@@ -1,12 +1,12 @@
 ghost use Rattle.std.specs.Prelude.{◌≡◌, ◌<◌, ◌≤◌, ◌+◌, ◌*◌, ◌^◌, length, Ok, Err, IfOk, IfErr, true};
 ghost use Rattle.solid_base.specs.Ranges.{IsLawfulRow};
 ghost use Rattle.iges_fields.specs.Delimiters.{AreDelimiters};
-ghost use Rattle.iges_fields.specs.Layout.{AreSpelt};
+ghost use Rattle.solid_base.specs.Texts.{IsOneLine};
+ghost use Rattle.iges_fields.specs.Layout.{AreSpelt, AreOneLine};
 ghost use Rattle.iges_parameters.specs.Faults.{GivesOrMemory, IsOfText};
-ghost use Rattle.iges_parameters.specs.RecordFields.{fields_of};
 ghost use Rattle.iges_parameters.specs.Rules.{MovesUpTo};
 ghost use Rattle.iges_parameters.specs.Tables.{is_read};
-ghost use Rattle.iges_parameters.specs.Records.{tree_row, assembly_row, row_at, record_of};
+ghost use Rattle.iges_parameters.specs.Records.{tree_row, assembly_row, row_at, record_of, record_in};
 
 use crate::faults::RowFault;
 use crate::reading::assemblies::assembly;
@@ -72,15 +72,8 @@ fn row_of(
 /// where a real is wanted. Where the record ends early, the parameters that don't stand there are empty;
 /// an empty parameter has its default or, without one, is missing. The record has at most 2^25 bytes.
 ///
-/// NotRead comes first, where `is_read` is false. Then the parameters are checked by their indexes, and at
-/// one index: Token, where no field stands; Missing; WrongKind, where a whole number is wanted and another
-/// kind stands, or a real and a text, and where field 0 isn't the type; TooFar, a magnitude above 100,000
-/// units, or above 9,999,999 in a whole number, or below 0 the number of an item or matrix of an assembly
-/// or of an instance's solid; BadSize, a size that isn't above 0, an LTX or R2 out of its range, or a
-/// number of items below 1; BadPostfix, an item that is 0 or above 3, or an operation before which fewer
-/// than two trees stand. After the last item comes BadPostfix 1, where other than one tree is left;
-/// after all parameters BadAxis and BadMatrix; last, Token of a field after the parameters. Memory comes
-/// when out of memory. The delimiters are lawful and differ.
+/// NotRead comes first, where `is_read` is false, and then what `read_known_row` answers. The
+/// delimiters are lawful and differ.
 #[tactic(auto, unfolding(crate::specs::Records::record_of))]
 pub fn read_row(
     alloc: Global,
@@ -90,17 +83,45 @@ pub fn read_row(
 ) -> Result<(Row, Tokens), RowFault>
     requires text { length source.now.text ≤ 2 ^ 25 }
     requires delimiters { AreDelimiters comma semi }
-    ensures found { IfOk result (λ read. record_of source.now.kind source.now.form source.now.matrix
-        (fields_of comma semi source.now.text) ≡ Ok (read.0, read.1)) }
-    ensures first_fault { IfErr result (λ fault. IsOfText fault →
-        record_of source.now.kind source.now.form source.now.matrix
-        (fields_of comma semi source.now.text) ≡ Err fault) }
+    ensures found { IfOk result (λ read. record_in comma semi source.now ≡ Ok (read.0, read.1)) }
+    ensures first_fault { IfErr result (λ fault. IsOfText fault → record_in comma semi source.now ≡ Err fault) }
     ensures lawful { IfOk result (λ read. IsLawfulRow read.0) }
     ensures spelt { IfOk result (λ read. AreSpelt read.1) }
+    ensures one_line { IfOk result (λ read. IsOneLine source.now.text → AreOneLine read.1) }
 {
-    if !is_read(source.kind, source.form) {
-        return Err(RowFault::NotRead);
+    if is_read(source.kind, source.form) {
+        read_known_row(alloc, source, comma, semi)
+    } else {
+        Err(RowFault::NotRead)
     }
+}
+
+/// Reads the record of an entity of a type and form for which `is_read` is true, as `read_row` does.
+///
+/// The parameters are checked by their indexes, and at one index: Token, where no field stands;
+/// Missing; WrongKind, where a whole number is wanted and another kind stands, or a real and a text,
+/// and where field 0 isn't the type; TooFar, a magnitude above 100,000 units, or above 9,999,999 in a
+/// whole number, or below 0 the number of an item or matrix of an assembly or of an instance's solid;
+/// BadSize, a size that isn't above 0, an LTX or R2 out of its range, or a number of items below 1;
+/// BadPostfix, an item that is 0 or above 3, or an operation before which fewer than two trees stand.
+/// After the last item comes BadPostfix 1, where other than one tree is left; after all parameters
+/// BadAxis and BadMatrix; last, Token of a field after the parameters. Memory comes when out of memory.
+#[tactic(auto, unfolding(crate::specs::Records::record_of))]
+pub fn read_known_row(
+    alloc: Global,
+    source: &RowText,
+    comma: u8,
+    semi: u8,
+) -> Result<(Row, Tokens), RowFault>
+    requires known { is_read source.now.kind source.now.form ≡ true }
+    requires text { length source.now.text ≤ 2 ^ 25 }
+    requires delimiters { AreDelimiters comma semi }
+    ensures found { IfOk result (λ read. record_in comma semi source.now ≡ Ok (read.0, read.1)) }
+    ensures first_fault { IfErr result (λ fault. IsOfText fault → record_in comma semi source.now ≡ Err fault) }
+    ensures lawful { IfOk result (λ read. IsLawfulRow read.0) }
+    ensures spelt { IfOk result (λ read. AreSpelt read.1) }
+    ensures one_line { IfOk result (λ read. IsOneLine source.now.text → AreOneLine read.1) }
+{
     let mut parameters = Parameters::new(source.text.as_slice(), comma, semi);
     read_type(source.kind, &mut parameters)?;
     let row = row_of(

@@ -13,7 +13,7 @@ use crate::reading::makers::affine;
 use crate::reading::numbers::numbers_of;
 use crate::reading::parameters::Parameters;
 use crate::reading::whole::spells;
-use crate::tables::{instance_table, matrix_table};
+use crate::tables::{INSTANCE_TABLE, MATRIX_TABLE};
 use iges_fields::{Field, FieldKind};
 use solid_base::Row;
 
@@ -29,7 +29,7 @@ pub fn prim_row(kind: u32, matrix: u32, parameters: &mut Parameters) -> Result<R
 }
 
 /// The row of a transformation matrix.
-#[tactic(auto, unfolding(crate::specs::Records::matrix_row))]
+#[tactic(auto, unfolding(crate::specs::Records::matrix_row, crate::specs::Tables::matrix_rules))]
 pub fn matrix_row(form: u32, matrix: u32, parameters: &mut Parameters) -> Result<Row, RowFault>
     requires form { form ≤ 1 }
     requires near { parameters.now.index < 2 ^ 31 }
@@ -37,7 +37,7 @@ pub fn matrix_row(form: u32, matrix: u32, parameters: &mut Parameters) -> Result
     ensures moves { IfOk result (λ row. MovesUpTo 12 parameters.old parameters.new) }
     ensures lawful { IfOk result IsLawfulRow }
 {
-    let numbers = numbers_of(&matrix_table(), parameters)?;
+    let numbers = numbers_of(&MATRIX_TABLE, parameters)?;
     let affine = checked_affine(affine(&numbers))?;
     Ok(Row::Matrix {
         form,
@@ -55,14 +55,14 @@ fn entity_number(numbers: &[i128; 1]) -> u32
 }
 
 /// The row of a solid instance.
-#[tactic(auto, unfolding(crate::specs::Records::instance_row))]
+#[tactic(auto, unfolding(crate::specs::Records::instance_row, crate::specs::Tables::instance_rules))]
 pub fn instance_row(matrix: u32, parameters: &mut Parameters) -> Result<Row, RowFault>
     requires near { parameters.now.index < 2 ^ 31 }
     ensures value { Gives (λ row. (row, parameters.new)) result (instance_row matrix parameters.old) }
     ensures moves { IfOk result (λ row. MovesUpTo 1 parameters.old parameters.new) }
     ensures lawful { IfOk result IsLawfulRow }
 {
-    let numbers = numbers_of(&instance_table(), parameters)?;
+    let numbers = numbers_of(&INSTANCE_TABLE, parameters)?;
     Ok(Row::Instance {
         child: entity_number(&numbers),
         matrix,

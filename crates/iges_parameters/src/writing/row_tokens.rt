@@ -5,7 +5,7 @@ ghost use Rattle.iges_parameters.specs.Writing.{whole, number_of_item, tokens_by
 ghost use Rattle.iges_parameters.specs.Tables.{matrix_rules, instance_rules};
 
 use crate::prims::push_prim;
-use crate::tables::{instance_table, matrix_table};
+use crate::tables::{INSTANCE_TABLE, MATRIX_TABLE};
 use crate::writing::number_tokens::push_numbers;
 use crate::writing::tokens::TokenSink;
 use solid_base::{Affine, Entity, Item, Placed, Row, Token};
@@ -41,6 +41,7 @@ fn push_row<S: TokenSink>(alloc: Global, tokens: &mut S, row: &Row) -> Result<()
     }
 }
 
+#[tactic(auto, unfolding(crate::specs::Tables::matrix_rules))]
 fn push_affine<S: TokenSink>(
     alloc: Global,
     tokens: &mut S,
@@ -53,7 +54,7 @@ fn push_affine<S: TokenSink>(
         alloc,
         tokens,
         124,
-        &matrix_table(),
+        &MATRIX_TABLE,
         &numbers_of_affine(affine),
     )
 }
@@ -74,11 +75,12 @@ fn numbers_of_affine(affine: &Affine) -> [i128; 12]
     ]
 }
 
+#[tactic(auto, unfolding(crate::specs::Tables::instance_rules))]
 fn push_instance<S: TokenSink>(alloc: Global, tokens: &mut S, child: u32) -> Result<(), AllocError>
     requires { child ≤ most_whole }
     ensures { OnOk result (tokens.new ≡ S.with tokens.old (whole (pos 430) ∷ tokens_by instance_rules (pos child ∷ []))) }
 {
-    push_numbers(alloc, tokens, 430, &instance_table(), &[i128::from(child)])
+    push_numbers(alloc, tokens, 430, &INSTANCE_TABLE, &[i128::from(child)])
 }
 
 fn push_tree<S: TokenSink>(alloc: Global, tokens: &mut S, items: &[Item]) -> Result<(), AllocError>

@@ -1,4 +1,5 @@
-use Rattle.std.proofs.Common.{sym, subst, arith}
+use Rattle.std.proofs.Common.{refl, sym, subst, arith}
+use Rattle.iges_parameters.specs.Tables.{matrix_rules}
 use Rattle.iges_parameters.proofs.Nearness.{AreNear, affine_near}
 use Rattle.iges_parameters.proofs.Pushed.{by_names}
 use Rattle.iges_parameters.proofs.writing.row_tokens.push_affine.Goals as goal
@@ -9,4 +10,5 @@ push_numbers-requires g c =
     (omega arith, (omega arith, (omega arith, near)))
 
 pub returns : goal.returns
-returns g c = by_names g.S.TokenSink.with c.push_numbers.result _ _ 124 _ _ _ _ c.matrix_table.ensures c.numbers_of_affine.ensures c.push_numbers.ensures
+unfolding matrix_rules
+returns g c = by_names g.S.TokenSink.with c.push_numbers.result _ _ 124 _ _ _ _ refl c.numbers_of_affine.ensures c.push_numbers.ensures
