@@ -1,4 +1,5 @@
--- What a text is read as: the steps of its reading up to the bound, and the magnitudes on the way to them.
+-- What a text is read as: the steps of its reading up to the bound, and the magnitudes on the way
+-- to them.
 use Rattle.std.specs.Prelude.{ℕ, ◌+◌, ◌-◌, ◌*◌, ◌^◌, List, length, min, fold, IsTrue, Bool, true, false, cond, nat_lt, Option, Some, None, Result, Ok, Err, ℤ}
 use Rattle.std.specs.List.{All}
 use Rattle.solid_base.specs.Digits.{is_digit}

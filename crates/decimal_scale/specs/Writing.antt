@@ -1,4 +1,4 @@
--- The text of a real (solidd's own choice among the spellings of IGES 5.3, 2.2.2.2).
+-- The text of a real (solidd's own choice among the spellings of IGES 5.3, 2.2.2 (constants)).
 use Rattle.std.specs.Prelude.{ℕ, zero, suc, ◌+◌, ◌-◌, ◌/◌, ◌%◌, ◌^◌, List, [], ◌∷◌, ◌++◌, ◌==◌, length, take, max, decimal, ℤ, pos, negsuc, unsigned_abs}
 use Rattle.std.specs.List.{suffix_len}
 
@@ -16,6 +16,7 @@ abbrev pub minus_text : ℤ → List ℕ
 minus_text (pos n) = []
 minus_text (negsuc n) = 45 ∷ []
 
--- value / 10 ^ places: a minus sign where it is negative, the whole part, a point, and the decimals without the zeros after them, at least one
+-- value / 10 ^ places: a minus sign where it is negative, the whole part, a point, and the decimals
+-- without the zeros after them, at least one
 abbrev pub real_text : ℤ → ℕ → List ℕ
 real_text value places = minus_text value ++ (decimal (unsigned_abs value / 10 ^ places) ++ 46 ∷ without_zeros (last_digits places (unsigned_abs value % 10 ^ places)))

@@ -1,6 +1,6 @@
-//! Reals as steps of 10^-12 units: reading their spellings, and writing them.
-//! Contracts see a text as the list of its bytes. What is read compares two exact products, and what
-//! is written is the exact text.
+//! Reals as steps of 10^-12 units: reading their spellings, and writing them. Contracts see a text
+//! as the list of its bytes. What is read compares two exact products, and what is written is the
+//! exact text.
 #![tactic(auto)]
 
 mod digits;

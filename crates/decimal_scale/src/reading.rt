@@ -1,20 +1,25 @@
-ghost use Rattle.std.specs.Prelude.{◌≡◌, ℕ, ℤ, ◌+◌, ◌^◌, ◌<◌, ◌≤◌, ◌∷◌, ◌++◌, ◌↔◌, min, length, cond, unsigned_abs};
+ghost use Rattle.std.specs.Prelude.{◌≡◌, ℕ, ℤ, ◌+◌, ◌^◌, ◌<◌, ◌≤◌, ◌∷◌, ◌++◌, ◌↔◌, min, length};
+ghost use Rattle.std.specs.Prelude.{cond, unsigned_abs};
 ghost use Rattle.solid_base.specs.Digits.{number_of};
-ghost use Rattle.solid_base.specs.Spelling.{Sign, IsNumeral, sign_of, after_sign, is_whole, is_exponent, class_with_rest, exponent_of, number_with_rest};
+ghost use Rattle.solid_base.specs.Spelling.{Sign, IsNumeral, sign_of, after_sign, is_whole};
+ghost use Rattle.solid_base.specs.Spelling.{is_exponent, class_with_rest, exponent_of};
+ghost use Rattle.solid_base.specs.Spelling.{number_with_rest};
 ghost use Rattle.solid_base.specs.Decimal.{IsReading, nearest, raised_by, lowered_by, with_sign};
-ghost use Rattle.decimal_scale.specs.Reading.{past, is_minus, in_range, sized, reading_of, AllDigits};
+ghost use Rattle.decimal_scale.specs.Reading.{past, is_minus, in_range, sized, reading_of};
+ghost use Rattle.decimal_scale.specs.Reading.{AllDigits};
 
 use crate::digits::{PAST, power};
 use crate::faults::RealFault;
 use crate::scaling::magnitude;
 use solid_base::{after_sign, digit_count};
 
-/// The steps, of 10^-12 units, that a whole or real number is read as (IGES 5.3, 2.2.2.1 and 2.2.2.2,
-/// and solidd's own small letters `e` and `d`): its exact value in steps, rounded to the nearest whole
-/// number, ties away from zero. It takes no memory, and work by the length of the text alone.
+/// The steps, of 10^-12 units, that a whole or real number is read as (IGES 5.3, 2.2.2
+/// (constants), and solidd's own small letters `e` and `d`): its exact value in steps, rounded to the
+/// nearest whole number, ties away from zero. It takes no memory, and work by the length of the
+/// text alone.
 ///
-/// `BadReal` exactly where the text is neither a whole nor a real number; `TooBig` exactly where the
-/// rounded magnitude exceeds 10^18.
+/// `BadReal` exactly where the text is neither a whole nor a real number; `TooBig` exactly where
+/// the rounded magnitude exceeds 10^18.
 pub fn read_real(text: &[u8]) -> Result<i128, RealFault>
     ensures bad { (result ≡ Err RealFault.BadReal) ↔ (¬ IsNumeral text.now) }
     ensures big { (result ≡ Err RealFault.TooBig)
@@ -57,7 +62,8 @@ fn is_negative(text: &[u8]) -> bool
 fn read_size(whole: &[u8], rest: &[u8]) -> Result<u64, RealFault>
     requires { AllDigits whole.now }
     ensures { (sign : Sign) → result
-        ≡ sized (class_with_rest (length whole.now) rest.now) (number_with_rest sign whole.now rest.now) }
+        ≡ sized (class_with_rest (length whole.now) rest.now)
+        (number_with_rest sign whole.now rest.now) }
 {
     match rest {
         [] if whole.len() == 0 => Err(RealFault::BadReal),
@@ -72,7 +78,8 @@ fn read_size(whole: &[u8], rest: &[u8]) -> Result<u64, RealFault>
 fn read_fraction(whole: &[u8], rest: &[u8]) -> Result<u64, RealFault>
     requires { AllDigits whole.now }
     ensures { (sign : Sign) → result
-        ≡ sized (class_with_rest (length whole.now) (46 ∷ rest.now)) (number_with_rest sign whole.now (46 ∷ rest.now)) }
+        ≡ sized (class_with_rest (length whole.now) (46 ∷ rest.now))
+        (number_with_rest sign whole.now (46 ∷ rest.now)) }
 {
     let count = digit_count(rest);
     if whole.len() == 0 && count == 0 {

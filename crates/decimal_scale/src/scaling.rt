@@ -37,7 +37,8 @@ fn rounded(start: u64, digits: &[u8], keep: usize) -> u64
     requires digits { AllDigits digits.now }
     requires kept { keep < length digits.now }
     ensures { (before rest : List ℕ) → start ≡ min (number_of before) past → AreDigits rest
-        → result ≡ capped (number_of (before ++ (digits.now ++ rest))) 0 (length digits.now - keep + length rest) }
+        → result ≡ capped (number_of (before ++ (digits.now ++ rest))) 0
+        (length digits.now - keep + length rest) }
 {
     let number = continued(start, &digits[..keep]);
     if digits[keep] >= b'5' {
@@ -47,8 +48,8 @@ fn rounded(start: u64, digits: &[u8], keep: usize) -> u64
     }
 }
 
-/// The number with these digits before and after its point, times a power of ten, rounded; or `PAST`
-/// where it is larger.
+/// The number with these digits before and after its point, times a power of ten, rounded; or
+/// `PAST` where it is larger.
 fn raised(whole: &[u8], decimals: &[u8], exponent: u64) -> u64
     requires whole { AllDigits whole.now }
     requires decimals { AllDigits decimals.now }
@@ -64,8 +65,8 @@ fn raised(whole: &[u8], decimals: &[u8], exponent: u64) -> u64
     }
 }
 
-/// The number with these digits before its point, divided by a power of ten, rounded; or `PAST` where
-/// it is larger. Its decimals don't count.
+/// The number with these digits before its point, divided by a power of ten, rounded; or `PAST`
+/// where it is larger. Its decimals don't count.
 fn lowered(whole: &[u8], exponent: u64) -> u64
     requires whole { AllDigits whole.now }
     requires some { 0 < exponent }

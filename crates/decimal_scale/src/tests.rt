@@ -1,7 +1,7 @@
 use super::*;
-use solid_base::Bytes;
+use solid_base::{Bytes, U};
 
-const STEPS: i128 = 1_000_000_000_000;
+const STEPS: i128 = U;
 
 #[test]
 fn reads_spellings(rt: HostRuntime) {

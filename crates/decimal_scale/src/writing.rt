@@ -1,4 +1,5 @@
-ghost use Rattle.std.specs.Prelude.{◌≡◌, ◌+◌, ◌^◌, ◌/◌, ◌%◌, ◌<◌, ◌≤◌, ◌∷◌, ◌++◌, ◌==◌, [], IfOk, OnOk, decimal, length, cond, unsigned_abs};
+ghost use Rattle.std.specs.Prelude.{◌≡◌, ◌+◌, ◌^◌, ◌/◌, ◌%◌, ◌<◌, ◌≤◌, ◌∷◌, ◌++◌, ◌==◌, [], IfOk};
+ghost use Rattle.std.specs.Prelude.{OnOk, decimal, length, cond, unsigned_abs};
 ghost use Rattle.std.specs.List.{suffix_len};
 ghost use Rattle.solid_base.specs.Decimal.{IsReading};
 ghost use Rattle.decimal_scale.specs.Writing.{last_digits, without_zeros, minus_text, real_text};
@@ -8,9 +9,9 @@ use itoa::Buffer;
 use solid_base::Bytes;
 use std::alloc::{AllocError, Global};
 
-/// The text of `value / 10^places`: a minus sign where it is negative, the whole part, a point, and the
-/// decimals without the zeros after them, at least one. With 12 places it is the text of `value`
-/// steps, which is read as them again.
+/// The text of `value / 10^places`: a minus sign where it is negative, the whole part, a point, and
+/// the decimals without the zeros after them, at least one. With 12 places it is the text of
+/// `value` steps, which is read as them again.
 pub fn write_real(alloc: Global, value: i128, places: u32) -> Result<Bytes, AllocError>
     requires places { (1 ≤ places) × (places ≤ 15) }
     requires within { unsigned_abs value ≤ 10 ^ 37 }
@@ -31,8 +32,8 @@ pub fn real_length(value: i128, places: u32) -> usize
     whole_length(value < 0, whole) + 1 + decimals_length(part, places)
 }
 
-/// How often a unit fits into a number, and what is left. Most numbers fit into 64 bits, where that is
-/// much faster.
+/// How often a unit fits into a number, and what is left. Most numbers fit into 64 bits, where that
+/// is much faster.
 fn split(size: u128, unit: u64) -> (u128, u64)
     requires { 0 < unit }
     ensures whole { result.0 ≡ size / unit }
@@ -110,7 +111,8 @@ fn push_decimals(text: &mut Vec<u8>, unit: u64, part: u64, places: u32) -> Resul
     requires unit { unit ≡ 10 ^ places }
     requires places { (1 ≤ places) × (places ≤ 15) }
     requires part { part < unit }
-    ensures { OnOk result (text.new.items ≡ text.old.items ++ without_zeros (last_digits places part)) }
+    ensures { OnOk result (text.new.items
+        ≡ text.old.items ++ without_zeros (last_digits places part)) }
 {
     // The digit 1 of the unit stands before the decimals, with the zeros in front of them.
     let mut buffer = Buffer::new();
@@ -140,7 +142,8 @@ fn before_thousands(part: u64, places: u32) -> (u64, u32)
     ensures some { 0 < result.0 }
     ensures part { result.0 < 10 ^ result.1 }
     ensures places { result.1 ≤ places }
-    ensures same { length (without_zeros (last_digits result.1 result.0)) ≡ length (without_zeros (last_digits places part)) }
+    ensures same { length (without_zeros (last_digits result.1 result.0))
+        ≡ length (without_zeros (last_digits places part)) }
 {
     let mut rest = part;
     let mut count = places;

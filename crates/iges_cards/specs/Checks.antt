@@ -1,5 +1,6 @@
--- The order in which a line is checked: its length, what stands past column 80, whether the first line is of another
--- form, its section letter, its number; of the terminate line then its groups and counts. This order is solidd's own.
+-- The order in which a line is checked: its length, what stands past column 80, whether the first
+-- line is of another form, its section letter, its number; of the terminate line then its groups
+-- and counts. This order is solidd's own.
 use Rattle.std.specs.Prelude.{ℕ, ◌+◌, List, [], ◌∷◌, Bool, false, cond, ◌==◌, ◌||◌, nat_lt, length, take, drop, slice_index, Option, None, Some, Result, Ok, Err}
 use Rattle.std.specs.List.{list_all}
 use Rattle.iges_cards.specs.declared.faults.CardFault.{CardFault}

@@ -1,5 +1,6 @@
--- A file in the fixed form (IGES 5.3, 2.2.2): the start, global, directory entry and parameter data sections, and the
--- terminate line. Directory and parameter lines may be absent, and parameter lines stand after directory lines alone.
+-- A file in the fixed form (IGES 5.3, 2.2.4 (file structure)): the start, global, directory entry and parameter data
+-- sections, and the terminate line. Directory and parameter lines may be absent, and parameter
+-- lines stand after directory lines alone.
 use Rattle.std.specs.Prelude.{◌≡◌, ◌<◌, ◌⊎◌, ℕ, ◌+◌, List, [], ◌∷◌, ◌++◌, length, take, drop, slice_index}
 use Rattle.std.specs.List.{concat}
 use Rattle.solid_base.specs.Series.{Spells}
@@ -12,7 +13,8 @@ use Rattle.iges_cards.specs.Lines.{IsLine, HasColumns}
 use Rattle.iges_cards.specs.Numbers.{IsNumber}
 use Rattle.iges_cards.specs.Sections.{letter_of}
 
--- the columns of a line: the section letter in column 73, the line's number in its section in columns 74 to 80
+-- the columns of a line: the section letter in column 73, the line's number in its section in
+-- columns 74 to 80
 pub record IsNumbered (named : Section) (count : ℕ) (columns line : List ℕ) : Type 0 where
   pub columns_of : HasColumns columns line
   pub letter : slice_index columns 72 ≡ letter_of named
@@ -51,8 +53,8 @@ pub record IsTerminate (counts : Counts) (text rest : List ℕ) : Type 0 where
   pub numbered : IsNumbered section.Terminate 1 columns line
   pub groups : HasGroups counts columns
 
--- the cards in front of the terminate line, and what is kept of them: columns 1 to 72 of the start and global lines,
--- all columns of the directory lines, columns 1 to 64 of the parameter lines
+-- the cards in front of the terminate line, and what is kept of them: columns 1 to 72 of the start
+-- and global lines, all columns of the directory lines, columns 1 to 64 of the parameter lines
 pub record AreSections (text : List ℕ) (start globals directory params : List (List ℕ)) : Type 0 where
   pub start_text : List ℕ
   pub global_text : List ℕ
@@ -68,7 +70,8 @@ pub record AreSections (text : List ℕ) (start globals directory params : List 
 abbrev pub counts_of : List (List ℕ) → List (List ℕ) → List (List ℕ) → List (List ℕ) → Counts
 counts_of start globals directory params = record { start = length start; global = length globals; directory = length directory; parameter = length params }
 
--- the bytes are a file in the fixed form: its sections, its terminate line, and whatever stands after that
+-- the bytes are a file in the fixed form: its sections, its terminate line, and whatever stands
+-- after that
 pub record IsFixedForm (bytes : List ℕ) (cards : Cards) : Type 0 where
   pub globals : List (List ℕ)
   pub sections_text : List ℕ

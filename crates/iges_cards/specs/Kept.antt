@@ -1,4 +1,5 @@
--- What the cards of a file in the fixed form keep, whatever stands in them: solidd's own bounds on a model's lines.
+-- What the cards of a file in the fixed form keep, whatever stands in them: solidd's own bounds on
+-- a model's lines.
 use Rattle.std.specs.Prelude.{◌≡◌, ◌≤◌, ℕ, List, length}
 use Rattle.std.specs.List.{AllByRecursion}
 use Rattle.solid_base.specs.Texts.{IsOneLine}
@@ -12,8 +13,8 @@ AreWide width lines = AllByRecursion (λ line. length line ≡ width) lines
 abbrev pub NoneHasFeed : List (List ℕ) → Type 0
 NoneHasFeed lines = AllByRecursion IsOneLine lines
 
--- 1 to 9,999,999 start lines of 72 bytes; directory lines of 80 and parameter lines of 64, at most 9,999,999 each;
--- and no line feed in any of them, nor in the global text
+-- 1 to 9,999,999 start lines of 72 bytes; directory lines of 80 and parameter lines of 64, at most
+-- 9,999,999 each; and no line feed in any of them, nor in the global text
 pub record AreKept (cards : Cards) : Type 0 where
   pub some_start : 1 ≤ length cards.start
   pub few_start : length cards.start ≤ 9999999

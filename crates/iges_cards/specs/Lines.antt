@@ -1,10 +1,11 @@
--- Lines of the fixed form (IGES 5.3, 2.2: lines of 80 columns). The line ends LF and CR LF, and blanks past column
--- 80, are solidd's own.
+-- Lines of the fixed form (IGES 5.3, 2.2: lines of 80 columns). The line ends LF and CR LF, and
+-- blanks past column 80, are solidd's own.
 use Rattle.std.specs.Prelude.{◌≡◌, ◌≢◌, ◌⊎◌, ℕ, List, [], ◌∷◌, ◌++◌, Bool, false, cond, ◌==◌, ◌&&◌, length}
 use Rattle.solid_base.specs.Spelling.{AreBlanks}
 use Rattle.solid_base.specs.Texts.{IsOneLine}
 
--- the text is a line with its line end, LF or CR LF; a CR directly before LF belongs to the line end
+-- the text is a line with its line end, LF or CR LF; a CR directly before LF belongs to the line
+-- end
 pub record IsLine (text line : List ℕ) : Type 0 where
   pub one_line : IsOneLine line
   pub ended : (text ≡ line ++ 13 ∷ 10 ∷ []) ⊎ ((text ≡ line ++ 10 ∷ []) × ((front : List ℕ) → line ≢ front ++ 13 ∷ []))

@@ -1,5 +1,5 @@
--- Numbers in fixed columns: sequence numbers and the counts of the terminate line (IGES 5.3, 2.2.2). That blanks may
--- stand on both sides and zeros in front is solidd's own.
+-- Numbers in fixed columns: sequence numbers and the counts of the terminate line (IGES 5.3,
+-- 2.2.4 (file structure)). That blanks may stand on both sides and zeros in front is solidd's own.
 use Rattle.std.specs.Prelude.{◌≡◌, ℕ, List, ◌++◌, Bool, ◌==◌, false, Option, None, Some}
 use Rattle.solid_base.specs.Columns.{AreDigitsOf, digits_in}
 use Rattle.solid_base.specs.Spelling.{AreBlanks, after_blanks}

@@ -23,8 +23,8 @@ keep section.Terminate kept cards = cards
 abbrev pub no_cards : Cards
 no_cards = record { start = []; global = []; directory = []; params = []; end = 0 }
 
--- a line is checked and kept, and then those after it; the section of the line before, the numbers of lines, what was
--- kept and the place are those of what was read before
+-- a line is checked and kept, and then those after it; the section of the line before, the numbers
+-- of lines, what was kept and the place are those of what was read before
 unfoldable pub read_from : Option Section → Counts → Cards → ℕ → List (List ℕ) → Result Cards CardFault
 read_from before counts cards place [] = Err fault.NoTerminate
 read_from before counts cards place (text ∷ texts) =

@@ -1,4 +1,4 @@
--- The sections of a file (IGES 5.3, 2.2.2: the section letter in column 73).
+-- The sections of a file (IGES 5.3, 2.2.4 (file structure): the section letter in column 73).
 use Rattle.std.specs.Prelude.{◌≤◌, ℕ, ◌+◌, Bool, true, false, cond, ◌==◌, Option, None, Some}
 use Rattle.iges_cards.specs.declared.sections.Counts.{Counts}
 use Rattle.iges_cards.specs.declared.sections.Section.{Section}
@@ -18,7 +18,8 @@ section_of letter =
     cond (letter == 83) (Some section.Start) (cond (letter == 71) (Some section.Global) (cond (letter == 68) (Some section.Directory)
     (cond (letter == 80) (Some section.Parameter) (cond (letter == 84) (Some section.Terminate) None))))
 
--- S comes first; after S comes S or G, after G also D or T, after D it is D, P or T, and after P it is P or T
+-- S comes first; after S comes S or G, after G also D or T, after D it is D, P or T, and after P it
+-- is P or T
 abbrev pub may_follow : Option Section → Section → Bool
 may_follow None section.Start = true
 may_follow None section.Global = false
@@ -55,8 +56,8 @@ is_terminate section.Global = false
 is_terminate section.Directory = false
 is_terminate section.Parameter = false
 
--- how many columns of a section's lines are kept: the text columns, which are 72, all columns of a directory line, and
--- those before the back pointer of a parameter line
+-- how many columns of a section's lines are kept: the text columns, which are 72, all columns of a
+-- directory line, and those before the back pointer of a parameter line
 abbrev pub width_of : Section → ℕ
 width_of section.Start = 72
 width_of section.Global = 72

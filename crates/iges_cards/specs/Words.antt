@@ -19,8 +19,8 @@ fault_number (fault.CountMismatch letter told found) = 9
 abbrev pub IsOfText : CardFault → Type 0
 IsOfText f = fault_number f ≢ 1
 
--- the fault's name and its numbers, blanks between them; a section is printed as its letter. Out of memory is never
--- printed, and so has no words
+-- the fault's name and its numbers, blanks between them; a section is printed as its letter. Out of
+-- memory is never printed, and so has no words
 abbrev pub fault_words : CardFault → List ℕ
 fault_words (fault.Memory e) = codes ""
 fault_words fault.NotFixed = codes "NotFixed"

@@ -1,6 +1,7 @@
 ghost use Rattle.std.specs.Prelude.{◌≡◌, ◌≤◌, ◌+◌, length, IfOk};
 ghost use Rattle.solid_base.specs.Outcomes.{Gives};
-ghost use Rattle.iges_cards.specs.Checks.{columns_in, section_after, card_in, group_in, told_in, same_count, terminated};
+ghost use Rattle.iges_cards.specs.Checks.{columns_in, section_after, card_in, group_in, told_in};
+ghost use Rattle.iges_cards.specs.Checks.{same_count, terminated};
 ghost use Rattle.iges_cards.specs.Numbers.{number_in, is_same};
 ghost use Rattle.iges_cards.specs.Sections.{AreFew};
 

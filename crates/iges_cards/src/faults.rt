@@ -72,8 +72,8 @@ impl CardFault {
         }
     }
 
-    /// The fault as it is printed: its name and its numbers, a section as its letter. AllocError when
-    /// out of memory. Out of memory itself is never printed.
+    /// The fault as it is printed: its name and its numbers, a section as its letter. AllocError
+    /// when out of memory. Out of memory itself is never printed.
     pub fn write_fault(&self, alloc: Global) -> Result<Bytes, AllocError>
         requires { IsOfText self.now }
         ensures { IfOk result (λ words. words ≡ fault_words self.now) }

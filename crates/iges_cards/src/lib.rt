@@ -1,6 +1,6 @@
 //! The lines of a file in the fixed form of IGES 5.3: their columns, sections and numbers.
-//! Contracts see the bytes as a list: `read_cards` gives what the grammar of cards finds there, and refuses
-//! bytes by the first fault.
+//! Contracts see the bytes as a list: `read_cards` gives what the grammar of cards finds there, and
+//! refuses bytes by the first fault.
 #![tactic(auto)]
 
 mod checks;

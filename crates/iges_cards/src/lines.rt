@@ -1,4 +1,5 @@
-ghost use Rattle.std.specs.Prelude.{◌≡◌, ◌≢◌, ◌<◌, ◌++◌, ◌∷◌, [], length, take, slice_index, All, IfSome, IfNone};
+ghost use Rattle.std.specs.Prelude.{◌≡◌, ◌≢◌, ◌<◌, ◌++◌, ◌∷◌, [], length, take, slice_index, All};
+ghost use Rattle.std.specs.Prelude.{IfSome, IfNone};
 ghost use Rattle.solid_base.specs.Texts.{IsOneLine};
 ghost use Rattle.iges_cards.specs.Lines.{IsFirstLine, line_of};
 
@@ -23,8 +24,8 @@ fn without_return(line: &[u8]) -> &[u8]
     }
 }
 
-/// The first line without its line end, LF or CR LF, and the bytes after it. The last line may have no
-/// line end.
+/// The first line without its line end, LF or CR LF, and the bytes after it. The last line may have
+/// no line end.
 pub fn split_line(bytes: &[u8]) -> (&[u8], &[u8])
     requires { 0 < length bytes.now }
     ensures first { IsFirstLine bytes.now result.0.now result.1.now }

@@ -10,8 +10,8 @@ use crate::sections::{Counts, Section};
 use solid_base::{BorrowedLines, Bytes, Lines};
 use std::alloc::{AllocError, Global};
 
-/// What the lines of a file hold, up to the terminate line. Directory and parameter lines stand in the
-/// bytes of the file, which they borrow.
+/// What the lines of a file hold, up to the terminate line. Directory and parameter lines stand in
+/// the bytes of the file, which they borrow.
 #[derive(Debug, Drop)]
 pub struct Cards<'a> {
     /// Columns 1 to 72 of each start line.
@@ -62,14 +62,15 @@ impl<'a> Cards<'a> {
 /// Reads lines up to the terminate line. What stands after it isn't read.
 ///
 /// A line has 80 columns and ends with LF or CR LF; blanks alone may stand after column 80, and the
-/// terminate line may also end where the bytes end. Column 73 is the section letter: S lines come first,
-/// then G, D, P and one T line; D and P lines may be absent. Columns 74 to 80 are the number of the line
-/// in its section. Columns 1 to 32 of the T line tell how many lines S, G, D and P have.
+/// terminate line may also end where the bytes end. Column 73 is the section letter: S lines come
+/// first, then G, D, P and one T line; D and P lines may be absent. Columns 74 to 80 are the number
+/// of the line in its section. Columns 1 to 32 of the T line tell how many lines S, G, D and P
+/// have.
 ///
-/// Bytes that aren't so are refused by the first fault, line by line; of one line ShortLine, LongLine,
-/// NotFixed, BadSection and BadSequence are looked for in this order, and in the T line then
-/// BadTerminate and CountMismatch. NoTerminate comes where no line has a fault and there is no T line.
-/// Memory comes when out of memory.
+/// Bytes that aren't so are refused by the first fault, line by line; of one line ShortLine,
+/// LongLine, NotFixed, BadSection and BadSequence are looked for in this order, and in the T line
+/// then BadTerminate and CountMismatch. NoTerminate comes where no line has a fault and there is no
+/// T line. Memory comes when out of memory.
 pub fn read_cards<'a>(alloc: Global, bytes: &'a [u8]) -> Result<Cards<'a>, CardFault>
     ensures found { IfOk result (λ cards. cards_in bytes.now ≡ Ok cards) }
     ensures first_fault { IfErr result (λ fault. IsOfText fault → cards_in bytes.now ≡ Err fault) }

@@ -1,5 +1,7 @@
 ghost use Rattle.std.specs.Prelude.{◌≡◌, ◌≤◌, ◌<◌, ◌+◌};
-ghost use Rattle.iges_cards.specs.Sections.{section_of, letter_of, may_follow, is_terminate, width_of, count_of, one_more, lines_in, no_lines, AreFew};
+ghost use Rattle.iges_cards.specs.Sections.{section_of, letter_of, may_follow, is_terminate};
+ghost use Rattle.iges_cards.specs.Sections.{width_of, count_of, one_more, lines_in, no_lines};
+ghost use Rattle.iges_cards.specs.Sections.{AreFew};
 
 /// A section of a file.
 #[derive(Clone, Copy, Debug)]

@@ -8,7 +8,8 @@ use Rattle.iges_directory.specs.declared.pairs.Pair.{Pair}
 use Rattle.iges_directory.specs.DirectoryFaults.{IsOfText}
 use Rattle.iges_directory.specs.ColumnNumbers.{number_in}
 use Rattle.iges_directory.specs.Pairs.{field, attributes, null_pair, text_of}
-use Rattle.iges_directory.specs.DirectoryReading.{◌>>=◌, within, type_in, after_lines, after_first, entity_in, pair_in, pairs_from, directory_in}
+use Rattle.solid_base.specs.Outcomes.{◌>>=◌}
+use Rattle.iges_directory.specs.DirectoryReading.{within, type_in, after_lines, after_first, entity_in, pair_in, pairs_from, directory_in}
 
 -- what is read is no out of memory
 abbrev pub TellsOfText : {A : Type 0} → Result A DirFault → Type 0

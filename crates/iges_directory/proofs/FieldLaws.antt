@@ -7,11 +7,11 @@ use Rattle.iges_fields.specs.declared.kinds.FieldKind.TheVariants as kind
 use Rattle.iges_fields.specs.declared.faults.FieldFault.{FieldFault}
 use Rattle.iges_fields.specs.Delimiters.{AreDelimiters}
 use Rattle.iges_fields.specs.Grammar.{IsSpelling, IsField}
-use Rattle.iges_fields.specs.Layout.{kind_of_token, content_of_token, field_of, is_last}
+use Rattle.iges_fields.specs.Layout.{kind_of_token, content_of_token, field_of, is_last, AreFields}
 use Rattle.iges_fields.specs.Reading.{Reading, field_at}
 use Rattle.iges_fields.proofs.Cuts.{read_is_spelt, field_shorter}
 use Rattle.iges_fields.proofs.Written.{spelt_is_read}
-use Rattle.iges_directory.specs.Global.{AreFields, BeginsWith, NoField, StopsAt}
+use Rattle.iges_directory.specs.Global.{BeginsWith, NoField, StopsAt}
 
 -- ---- tokens
 abbrev token_with : FieldKind → List ℕ → Token

@@ -7,12 +7,12 @@ use Rattle.iges_fields.specs.declared.kinds.FieldKind.{FieldKind}
 use Rattle.iges_fields.specs.declared.kinds.FieldKind.TheVariants as kind
 use Rattle.iges_fields.specs.Delimiters.{AreDelimiters}
 use Rattle.iges_fields.specs.Grammar.{IsSpelling, IsField}
-use Rattle.iges_fields.specs.Layout.{kind_of_token, content_of_token, field_of}
+use Rattle.iges_fields.specs.Layout.{kind_of_token, content_of_token, field_of, AreFields}
 use Rattle.iges_fields.specs.Reading.{Reading, field_at}
 use Rattle.iges_fields.specs.Readers.{Reader, IsStep, IsNext}
 use Rattle.iges_fields.proofs.Cuts.{read_is_spelt, field_shorter}
 use Rattle.iges_fields.proofs.Written.{spelt_is_read}
-use Rattle.iges_directory.specs.Global.{AreFields, BeginsWith, NoField, StopsAt}
+use Rattle.iges_directory.specs.Global.{BeginsWith, NoField, StopsAt}
 use Rattle.iges_directory.specs.GlobalSteps.{IsContent}
 use Rattle.iges_directory.proofs.FieldLaws.{begins_more, begins_ends}
 

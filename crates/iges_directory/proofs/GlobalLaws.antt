@@ -3,11 +3,11 @@ use Rattle.std.proofs.Common.{◌≡◌, ◌⊎◌, ◌<◌, ◌≤◌, ℕ, Lis
 use Rattle.solid_base.specs.declared.entities.Token.{Token}
 use Rattle.iges_fields.specs.Delimiters.{AreDelimiters}
 use Rattle.iges_fields.specs.Grammar.{delimiter}
-use Rattle.iges_fields.specs.Layout.{is_last}
+use Rattle.iges_fields.specs.Layout.{is_last, AreFields}
 use Rattle.iges_directory.specs.declared.global_faults.GlobalFault.{GlobalFault}
 use Rattle.iges_directory.specs.declared.global_faults.GlobalFault.TheVariants as fault
 use Rattle.iges_directory.specs.declared.globals.GlobalText.{GlobalText}
-use Rattle.iges_directory.specs.Global.{TellsDelimiter, IsFirst, IsSecond, AreFields, IsGlobal, StopsAt, NoFirst, NoSecond, NoOther, IsFirstFault, IsFaultOf}
+use Rattle.iges_directory.specs.Global.{TellsDelimiter, IsFirst, IsSecond, IsGlobal, StopsAt, NoFirst, NoSecond, NoOther, IsFirstFault, IsFaultOf}
 use Rattle.iges_directory.specs.GlobalReading.{first_in, Second, second_in}
 use Rattle.iges_directory.specs.GlobalSteps.{IsOtherFault}
 use Rattle.iges_directory.proofs.Telling.{first_lawful, first_again, first_takes, second_lawful, second_again, second_takes}

@@ -7,3 +7,5 @@ pub mod FaultForms
 pub mod NumberForms
 pub mod PairForms
 pub mod PairSteps
+pub mod KeptEntries
+pub mod KeptGlobals

@@ -6,10 +6,11 @@ use Rattle.std.proofs.lemmas.List.Folds.{length-prefix_len}
 use Rattle.std.proofs.lemmas.Bool.Decides.{nat_tests}
 use Rattle.std.proofs.Math.Seq.{take-append_seam, drop-append_seam}
 use Rattle.solid_base.specs.Digits.{is_digit, AreDigits, number_of}
+use Rattle.solid_base.specs.Columns.{AreDigitsOf, number_before, digits_in}
 use Rattle.solid_base.specs.Spelling.{is_blank, AreBlanks, Sign, NoSign, Plus, Minus, sign_text, sign_of, after_sign, after_blanks, digit_count}
 use Rattle.solid_base.proofs.Numerals.{sign_cut}
 use Rattle.solid_base.proofs.Prefix.{both, prefix_upto, rest_upto, front_passes}
-use Rattle.iges_directory.specs.ColumnNumbers.{IsGiven, IsNumber, signed, number_before, number_at, number_in}
+use Rattle.iges_directory.specs.ColumnNumbers.{IsGiven, IsNumber, signed, number_at, number_in}
 
 pub all_test : (p : ℕ → Bool) (xs : List ℕ) → AllByRecursion (λ b. IsTrue (p b)) xs → list_all p xs ≡ true
 all_test p [] h = refl
@@ -46,26 +47,51 @@ blanks_stop (b ∷ bs) h = rw (blank_not_digit b h.0) refl
 
 -- ---- what is spelt is read
 
-signed_again : (sign : Sign) (n : ℕ) → (sign ≡ Minus → n ≡ 0) → signed sign n ≡ Some n
+signed_again : (sign : Sign) (n : ℕ) → (sign ≡ Minus → n ≡ 0) → signed sign (Some n) ≡ Some n
 signed_again NoSign n h = refl
 signed_again Plus n h = refl
 signed_again Minus n h = let none : n ≡ 0 = h refl in rw none refl
 
-before_again : (sign : Sign) (n : ℕ) (digits after : List ℕ) → 0 < length digits → AreDigits digits → AreBlanks after → number_of digits ≡ n → (sign ≡ Minus → n ≡ 0)
-    → number_before sign (digit_count (digits ++ after)) (digits ++ after) ≡ Some n
-before_again sign n digits after some all blank value minus =
-    rw (prefix_upto is_digit digits after all (blanks_stop after blank), drop-append_seam digits after, take-append_seam digits after, all_test is_blank after blank, positive (length digits) some, value) (signed_again sign n minus)
+digits_again : (n : ℕ) (columns : List ℕ) → AreDigitsOf n columns → digits_in columns ≡ Some n
+unfolding digits_in
+digits_again n columns h =
+    let spelt = h.digits ++ h.after in
+    let read : number_before (digit_count spelt) spelt ≡ Some (number_of h.digits) =
+    rw (
+      prefix_upto is_digit h.digits h.after h.all_digits (blanks_stop h.after h.after_blank),
+      drop-append_seam h.digits h.after,
+      take-append_seam h.digits h.after,
+      all_test is_blank h.after h.after_blank,
+      positive (length h.digits) h.some_digit,
+    ) refl in
+    ap (λ t. number_before (digit_count t) t) h.spelt ∙ read ∙ ap Some h.value
 
-at_some : (b : ℕ) (bs : List ℕ) → number_at (b ∷ bs) ≡ number_before (sign_of (b ∷ bs)) (digit_count (after_sign (b ∷ bs))) (after_sign (b ∷ bs))
+at_some : (b : ℕ) (bs : List ℕ) → number_at (b ∷ bs) ≡ signed (sign_of (b ∷ bs)) (digits_in (after_sign (b ∷ bs)))
 at_some b bs = rw (positive (length (b ∷ bs)) (omega arith)) refl
 
-at_again : (sign : Sign) (n : ℕ) (digits after : List ℕ) → 0 < length digits → AreDigits digits → AreBlanks after → number_of digits ≡ n → (sign ≡ Minus → n ≡ 0)
-    → (prefix_len is_blank (sign_text sign ++ (digits ++ after)) ≡ 0) × (number_at (sign_text sign ++ (digits ++ after)) ≡ Some n)
-at_again NoSign n [] after some all blank value minus = absurd (omega arith)
-at_again NoSign n (d ∷ ds) after some all blank value minus =
-    (rw (digit_not_blank d all.0) refl, at_some d (ds ++ after) ∙ rw (digit_not_plus d all.0, digit_not_minus d all.0) (before_again NoSign n (d ∷ ds) after some all blank value minus))
-at_again Plus n digits after some all blank value minus = (refl, at_some 43 (digits ++ after) ∙ before_again Plus n digits after some all blank value minus)
-at_again Minus n digits after some all blank value minus = (refl, at_some 45 (digits ++ after) ∙ before_again Minus n digits after some all blank value minus)
+-- the digits that a field begins with
+first_digit : (n : ℕ) (field : List ℕ) → AreDigitsOf n field → (b : ℕ) × (bs : List ℕ) × (field ≡ b ∷ bs) × (is_digit b ≡ true)
+first_digit n field h = go h.digits h.spelt h.some_digit h.all_digits where
+  go : (ds : List ℕ) → field ≡ ds ++ h.after → 0 < length ds → AreDigits ds → (b : ℕ) × (bs : List ℕ) × (field ≡ b ∷ bs) × (is_digit b ≡ true)
+  go [] e some all = absurd (omega arith)
+  go (d ∷ ds) e some all = (d, ds ++ h.after, e, all.0)
+
+digit_begins : (b : ℕ) (bs : List ℕ) → is_digit b ≡ true → (prefix_len is_blank (b ∷ bs) ≡ 0) × (number_at (b ∷ bs) ≡ digits_in (b ∷ bs))
+digit_begins b bs h =
+    let plain : signed (sign_of (b ∷ bs)) (digits_in (after_sign (b ∷ bs))) ≡ signed NoSign (digits_in (b ∷ bs)) = rw (digit_not_plus b h, digit_not_minus b h) refl in
+    (rw (digit_not_blank b h) refl, at_some b bs ∙ plain ∙ unsigned (digits_in (b ∷ bs))) where
+      unsigned : (o : Option ℕ) → signed NoSign o ≡ o
+      unsigned None = refl
+      unsigned (Some n) = refl
+
+at_again : (sign : Sign) (n : ℕ) (field : List ℕ) → AreDigitsOf n field → (sign ≡ Minus → n ≡ 0)
+    → (prefix_len is_blank (sign_text sign ++ field) ≡ 0) × (number_at (sign_text sign ++ field) ≡ Some n)
+at_again NoSign n field h minus =
+    let (b, bs, e, digit) = first_digit n field h in
+    let (stop, read) = digit_begins b bs digit in
+    (ap (prefix_len is_blank) e ∙ stop, ap number_at e ∙ read ∙ ap digits_in (sym e) ∙ digits_again n field h)
+at_again Plus n field h minus = (refl, at_some 43 field ∙ ap (signed Plus) (digits_again n field h))
+at_again Minus n field h minus = (refl, at_some 45 field ∙ ap (signed Minus) (digits_again n field h) ∙ signed_again Minus n minus)
 
 blank_again : (columns : List ℕ) → AreBlanks columns → after_blanks columns ≡ []
 blank_again columns h = subst (λ (t : List ℕ). drop (prefix_len is_blank t) t ≡ []) (append-nil columns) (rest_upto is_blank columns [] h refl)
@@ -74,8 +100,8 @@ pub number_again : (n : ℕ) (columns : List ℕ) → IsNumber n columns → num
 unfolding number_in
 number_again n columns (inl h) = ap number_at (blank_again columns h.0) ∙ ap Some (sym h.1)
 number_again n columns (inr h) =
-    let text = sign_text h.sign ++ (h.digits ++ h.after) in
-    let (stop, value) = at_again h.sign n h.digits h.after h.some_digit h.all_digits h.after_blank h.value h.no_minus in
+    let text = sign_text h.sign ++ h.field in
+    let (stop, value) = at_again h.sign n h.field h.digits h.no_minus in
     let rest : after_blanks columns ≡ text = ap after_blanks h.spelt ∙ rest_upto is_blank h.before text h.before_blank stop in
     ap number_at rest ∙ value
 
@@ -85,33 +111,42 @@ passed : (v : Bool) (x : Option ℕ) (y : ℕ) → cond v x None ≡ Some y → 
 passed true x y h = (refl, h)
 passed false x y h = cc
 
-signed_takes : (sign : Sign) (m n : ℕ) → signed sign m ≡ Some n → (m ≡ n) × (sign ≡ Minus → n ≡ 0)
-signed_takes NoSign m n h = (cc, λ e. cc)
-signed_takes Plus m n h = (cc, λ e. cc)
-signed_takes Minus m n h =
+signed_takes : (sign : Sign) (o : Option ℕ) (n : ℕ) → signed sign o ≡ Some n → (o ≡ Some n) × (sign ≡ Minus → n ≡ 0)
+signed_takes sign None n h = cc
+signed_takes NoSign (Some m) n h = (h, λ e. cc)
+signed_takes Plus (Some m) n h = (h, λ e. cc)
+signed_takes Minus (Some m) n h =
     let (none, is) = passed (m == 0) (Some m) n h in
     let same : m ≡ n = cc in
-    (same, λ e. sym same ∙ is_zero m none)
+    (is, λ e. sym same ∙ is_zero m none)
 
-given_takes : (n : ℕ) (columns front text : List ℕ) → AreBlanks front → columns ≡ front ++ text → number_before (sign_of text) (digit_count (after_sign text)) (after_sign text) ≡ Some n → IsGiven n columns
-given_takes n columns front text blank is h =
-    let rest = after_sign text in
-    let count = digit_count rest in
-    let (tests, value) = passed (not (count == 0) && list_all is_blank (drop count rest)) (signed (sign_of text) (number_of (take count rest))) n h in
-    let (some, blanks) = both (not (count == 0)) (list_all is_blank (drop count rest)) tests in
-    let (same, minus) = signed_takes (sign_of text) (number_of (take count rest)) n value in
+digits_take : (n : ℕ) (text : List ℕ) → digits_in text ≡ Some n → AreDigitsOf n text
+unfolding digits_in
+digits_take n text h =
+    let count = digit_count text in
+    let (tests, value) = passed (not (count == 0) && list_all is_blank (drop count text)) (Some (number_of (take count text))) n h in
+    let (some, blanks) = both (not (count == 0)) (list_all is_blank (drop count text)) tests in
     let more : 0 < count = not_zero count some in
+    record {
+      digits = take count text;
+      after = drop count text;
+      spelt = sym (take-append-drop count text);
+      some_digit = omega (arith, more, length-prefix_len is_digit text);
+      all_digits = front_passes is_digit text;
+      after_blank = test_all is_blank (drop count text) blanks;
+      value = (let e : number_of (take count text) ≡ n = cc in e);
+    }
+
+given_takes : (n : ℕ) (columns front text : List ℕ) → AreBlanks front → columns ≡ front ++ text → signed (sign_of text) (digits_in (after_sign text)) ≡ Some n → IsGiven n columns
+given_takes n columns front text blank is h =
+    let (value, minus) = signed_takes (sign_of text) (digits_in (after_sign text)) n h in
     record {
       before = front;
       sign = sign_of text;
-      digits = take count rest;
-      after = drop count rest;
-      spelt = is ∙ ap (λ t. front ++ t) (sym (sign_cut text)) ∙ ap (λ t. front ++ (sign_text (sign_of text) ++ t)) (sym (take-append-drop count rest));
+      field = after_sign text;
+      spelt = is ∙ ap (λ t. front ++ t) (sym (sign_cut text));
       before_blank = blank;
-      some_digit = omega (arith, more, length-prefix_len is_digit rest);
-      all_digits = front_passes is_digit rest;
-      after_blank = test_all is_blank (drop count rest) blanks;
-      value = same;
+      digits = digits_take n (after_sign text) value;
       no_minus = minus;
     }
 

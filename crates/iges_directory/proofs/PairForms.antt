@@ -8,7 +8,8 @@ use Rattle.iges_directory.specs.declared.directory_faults.DirFault.TheVariants a
 use Rattle.iges_directory.specs.declared.pairs.Pair.{Pair}
 use Rattle.iges_directory.specs.ColumnNumbers.{number_in}
 use Rattle.iges_directory.specs.Pairs.{field, attributes, null_pair, HoldsWithin, IsOfType, IsEntity, IsPair}
-use Rattle.iges_directory.specs.DirectoryReading.{◌>>=◌, within, type_in, after_lines, after_first, entity_in, pair_in}
+use Rattle.solid_base.specs.Outcomes.{◌>>=◌}
+use Rattle.iges_directory.specs.DirectoryReading.{within, type_in, after_lines, after_first, entity_in, pair_in}
 use Rattle.iges_directory.proofs.NumberForms.{all_test, test_all, number_again, number_takes}
 
 -- ---- tests

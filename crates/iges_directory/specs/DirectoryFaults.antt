@@ -16,7 +16,8 @@ fault_number (fault.TooMuchText entity) = 6
 abbrev pub IsOfText : DirFault → Type 0
 IsOfText f = fault_number f ≢ 1
 
--- the fault's name and its numbers, blanks between them. Out of memory is never printed, and so has no words
+-- the fault's name and its numbers, blanks between them. Out of memory is never printed, and so has
+-- no words
 abbrev pub fault_words : DirFault → List ℕ
 fault_words (fault.Memory e) = codes ""
 fault_words fault.OddLines = codes "OddLines"

@@ -1,24 +1,14 @@
--- The order in which a directory is checked, which is solidd's own: the number of lines, then its pairs one by one; of
--- a pair the type, the parameter lines, the matrix and the form.
-use Rattle.std.specs.Prelude.{ℕ, ◌+◌, ◌-◌, ◌*◌, List, [], ◌∷◌, ◌++◌, cond, ◌==◌, ◌&&◌, ◌||◌, not, nat_le, nat_lt, ◌%◌, length, Option, None, Some, Result, Ok, Err, ◌≡◌}
+-- The order in which a directory is checked, which is solidd's own: the number of lines, then its
+-- pairs one by one; of a pair the type, the parameter lines, the matrix and the form.
+use Rattle.std.specs.Prelude.{ℕ, ◌+◌, ◌-◌, ◌*◌, List, [], ◌∷◌, ◌++◌, cond, ◌==◌, ◌&&◌, ◌||◌, not, nat_le, nat_lt, ◌%◌, length, Option, None, Some, Result, Ok, Err}
 use Rattle.std.specs.List.{list_all}
+use Rattle.solid_base.specs.Outcomes.{◌>>=◌}
 use Rattle.solid_base.specs.Spelling.{is_blank}
 use Rattle.iges_directory.specs.declared.directory_faults.DirFault.{DirFault}
 use Rattle.iges_directory.specs.declared.directory_faults.DirFault.TheVariants as fault
 use Rattle.iges_directory.specs.declared.pairs.Pair.{Pair}
 use Rattle.iges_directory.specs.ColumnNumbers.{number_in}
 use Rattle.iges_directory.specs.Pairs.{field, attributes, null_pair, text_of}
-
-infixl 10 ◌>>=◌
--- a check, and then the next on what it gave
-abbrev pub ◌>>=◌ : {A B : Type 0} → Result A DirFault → (A → Result B DirFault) → Result B DirFault
-(Ok x) >>= f = f x
-(Err e) >>= f = Err e
-
--- what a function returned, seen by view, is what checking gives
-abbrev pub Gives : {X Y : Type 0} → (X → Y) → Result X DirFault → Result Y DirFault → Type 0
-Gives view (Ok x) read = read ≡ Ok (view x)
-Gives view (Err f) read = read ≡ Err f
 
 -- a number that a field of an entity holds, where it is within two bounds
 unfoldable pub within : ℕ → ℕ → ℕ → ℕ → Option ℕ → Result ℕ DirFault
@@ -39,15 +29,16 @@ after_lines entity kind first count one two =
     within entity 15 0 99999 (number_in (field 5 two)) >>= λ form.
     Ok (record { kind = kind; first = first; count = count; matrix = matrix; form = form; attrs = attributes one two })
 
--- the entry of an entity of which the type and the first parameter line are known: field 14, which is at most the
--- number of lines from there on, and the parameter lines of the entries so far, and then the rest
+-- the entry of an entity of which the type and the first parameter line are known: field 14, which
+-- is at most the number of lines from there on, and the parameter lines of the entries so far, and
+-- then the rest
 abbrev pub after_first : ℕ → ℕ → ℕ → ℕ → ℕ → List ℕ → List ℕ → Result Pair DirFault
 after_first params text entity kind first one two =
     within entity 14 1 (params - first + 1) (number_in (field 4 two)) >>= λ count.
     cond (nat_lt 500000 (text + count)) (Err (fault.TooMuchText entity)) (after_lines entity kind first count one two)
 
--- the entry of an entity of this type, after entries with so many parameter lines in a file with params of them:
--- field 2, which is one of them, and then the rest
+-- the entry of an entity of this type, after entries with so many parameter lines in a file with
+-- params of them: field 2, which is one of them, and then the rest
 unfoldable pub entity_in : ℕ → ℕ → ℕ → ℕ → List ℕ → List ℕ → Result Pair DirFault
 entity_in params text entity kind one two =
     within entity 2 1 params (number_in (field 2 one)) >>= λ first.

@@ -1,10 +1,10 @@
--- The global section (IGES 5.3, 2.2.4.3): the delimiters, and the parameters after them.
+-- IGES 5.3, 2.2.4.3 (global section): the delimiters, and the parameters after them.
 use Rattle.std.specs.Prelude.{◌≡◌, ◌≢◌, ◌⊎◌, ℕ, ◌+◌, List, [], ◌∷◌, ◌++◌, Bool, false, IsTrue, length}
 use Rattle.solid_base.specs.Spelling.{AreBlanks}
 use Rattle.solid_base.specs.declared.entities.Token.{Token}
 use Rattle.iges_fields.specs.Delimiters.{is_lawful}
 use Rattle.iges_fields.specs.Grammar.{delimiter, IsField}
-use Rattle.iges_fields.specs.Layout.{field_of, is_last}
+use Rattle.iges_fields.specs.Layout.{field_of, is_last, AreFields}
 use Rattle.iges_fields.specs.Reading.{Reading}
 use Rattle.iges_directory.specs.declared.global_faults.GlobalFault.{GlobalFault}
 use Rattle.iges_directory.specs.declared.global_faults.GlobalFault.TheVariants as fault
@@ -12,11 +12,13 @@ use Rattle.iges_directory.specs.declared.globals.GlobalText.{GlobalText}
 
 -- ---- the grammar
 
--- how a delimiter is spelt (IGES 5.3, 2.2.4.3.1 and 2.2.4.3.2): by nothing, where it is the usual one, or by `1H` (49, 72) and the delimiter, which is lawful
+-- how a delimiter is spelt: by nothing, where it is the usual one, or by `1H` (49, 72) and the
+-- delimiter, which is lawful
 abbrev pub SpellsDelimiter : ℕ → ℕ → List ℕ → Type 0
 SpellsDelimiter usual d spelt = ((spelt ≡ []) × (d ≡ usual)) ⊎ ((spelt ≡ 49 ∷ 72 ∷ d ∷ []) × IsTrue (is_lawful d))
 
--- a text begins with a parameter that tells a delimiter: blanks, its spelling, blanks, and the byte that ends it
+-- a text begins with a parameter that tells a delimiter: blanks, its spelling, blanks, and the byte
+-- that ends it
 pub record TellsDelimiter (usual d end : ℕ) (text rest : List ℕ) : Type 0 where
   pub before : List ℕ
   pub spelt : List ℕ
@@ -26,18 +28,15 @@ pub record TellsDelimiter (usual d end : ℕ) (text rest : List ℕ) : Type 0 wh
   pub blank_after : AreBlanks after
   pub is : text ≡ before ++ (spelt ++ (after ++ end ∷ rest))
 
--- a text begins with parameter 1 (IGES 5.3, 2.2.4.3.1): it tells comma, which is a comma where nothing is spelt, and comma itself ends it
+-- a text begins with parameter 1: it tells comma, which is a comma where nothing is spelt, and
+-- comma itself ends it
 abbrev pub IsFirst : ℕ → List ℕ → List ℕ → Type 0
 IsFirst comma text rest = TellsDelimiter 44 comma comma text rest
 
--- a text begins with parameter 2 (IGES 5.3, 2.2.4.3.2): it tells semi, which is a semicolon where nothing is spelt, and which isn't comma again; semi ends it where it is the last parameter, else comma
+-- a text begins with parameter 2: it tells semi, which is a semicolon where nothing is spelt, and
+-- which isn't comma again; semi ends it where it is the last parameter, else comma
 abbrev pub IsSecond : ℕ → ℕ → Bool → List ℕ → List ℕ → Type 0
 IsSecond comma semi ended text rest = (semi ≢ comma) × TellsDelimiter 59 semi (delimiter comma semi ended) text rest
-
--- a text begins with these fields, and semi ends the last of them; what stands after it is free
-abbrev pub AreFields : ℕ → ℕ → List ℕ → List Token → Type 0
-AreFields comma semi text [] = Unit {0}
-AreFields comma semi text (t ∷ ts) = (rest : List ℕ) × IsField comma semi text (field_of t rest (is_last ts)) × AreFields comma semi rest ts
 
 -- a text is a global section with these delimiters and these parameters from the third on
 pub record IsGlobal (text : List ℕ) (global : GlobalText) : Type 0 where
@@ -52,7 +51,8 @@ pub record IsGlobal (text : List ℕ) (global : GlobalText) : Type 0 where
 -- a text begins with these fields, each with comma after it, and this is what stands after them
 abbrev pub BeginsWith : ℕ → ℕ → List ℕ → List Token → List ℕ → Type 0
 BeginsWith comma semi text [] rest = text ≡ rest
-BeginsWith comma semi text (t ∷ ts) rest = (after : List ℕ) × IsField comma semi text (field_of t after false) × BeginsWith comma semi after ts rest
+BeginsWith comma semi text (t ∷ ts) rest =
+    (after : List ℕ) × IsField comma semi text (field_of t after false) × BeginsWith comma semi after ts rest
 
 -- a text begins with no field
 abbrev pub NoField : ℕ → ℕ → List ℕ → Type 0
@@ -77,7 +77,8 @@ pub record NoSecond (text : List ℕ) : Type 0 where
   pub first : IsFirst comma text after_first
   pub none : (semi : ℕ) → (ended : Bool) → (rest : List ℕ) → IsSecond comma semi ended after_first rest → ⊥
 
--- parameter n is the first that is faulty: parameters 1 and 2 stand there, and of the fields after them it is the first that is none
+-- parameter n is the first that is faulty: parameters 1 and 2 stand there, and of the fields after
+-- them it is the first that is none
 pub record NoOther (n : ℕ) (text : List ℕ) : Type 0 where
   pub comma : ℕ
   pub semi : ℕ

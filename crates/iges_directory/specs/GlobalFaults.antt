@@ -12,7 +12,8 @@ fault_number (fault.BadGlobal index) = 2
 abbrev pub IsOfText : GlobalFault → Type 0
 IsOfText f = fault_number f ≢ 1
 
--- the fault's name and its index, a blank between them. Out of memory is never printed, and so has no words
+-- the fault's name and its index, a blank between them. Out of memory is never printed, and so has
+-- no words
 abbrev pub fault_words : GlobalFault → List ℕ
 fault_words (fault.Memory e) = codes ""
 fault_words (fault.BadGlobal index) = codes "BadGlobal " ++ decimal index

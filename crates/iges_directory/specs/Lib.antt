@@ -6,3 +6,4 @@ pub mod DirectoryFaults
 pub mod ColumnNumbers
 pub mod Pairs
 pub mod DirectoryReading
+pub mod Kept

@@ -1,7 +1,9 @@
--- Entries of the directory (IGES 5.3, 2.2.4.4: two lines of ten fields of eight columns, numbered from 1 to 20). Which
--- fields are read and kept, and the ranges, are solidd's own.
-use Rattle.std.specs.Prelude.{◌≡◌, ◌≢◌, ◌≤◌, ◌⊎◌, ℕ, ◌+◌, ◌-◌, ◌*◌, List, [], ◌∷◌, ◌++◌, length, take, drop, replicate}
+-- Entries of the directory (IGES 5.3, 2.2.4.4 (directory entry section): two lines of ten fields of
+-- eight columns, numbered from 1 to 20). Which fields are read and kept, and the ranges, are
+-- solidd's own.
+use Rattle.std.specs.Prelude.{◌≡◌, ◌≢◌, ◌≤◌, ◌⊎◌, ℕ, ◌+◌, ◌-◌, ◌*◌, List, [], ◌∷◌, ◌++◌, length, take, drop}
 use Rattle.solid_base.specs.Spelling.{AreBlanks}
+use Rattle.solid_base.specs.Texts.{blank_attributes}
 use Rattle.iges_directory.specs.declared.pairs.Pair.{Pair}
 use Rattle.iges_directory.specs.ColumnNumbers.{IsNumber}
 
@@ -13,14 +15,11 @@ fields from to line = take (8 * (to + 1 - from)) (drop (8 * (from - 1)) line)
 abbrev pub field : ℕ → List ℕ → List ℕ
 field n line = fields n n line
 
--- the fields that are kept unread: 3 structure, 4 line font, 5 level, 6 view, 8 label display, 9 status; 12 line
--- weight, 13 colour, 16 and 17 reserved, 18 label, 19 subscript. Fields 11 to 20 are those of the second line
+-- the fields that are kept unread: 3 structure, 4 line font, 5 level, 6 view, 8 label display, 9
+-- status; 12 line weight, 13 colour, 16 and 17 reserved, 18 label, 19 subscript. Fields 11 to 20
+-- are those of the second line
 abbrev pub attributes : List ℕ → List ℕ → List ℕ
 attributes one two = ((fields 3 6 one ++ fields 8 9 one) ++ fields 2 3 two) ++ fields 6 9 two
-
--- the attributes of an entity that sets none: blanks, and zeros in field 9; solidd's own
-abbrev pub blank_attributes : List ℕ
-blank_attributes = (replicate 40 32 ++ replicate 8 48) ++ replicate 48 32
 
 -- the entry of the null entity (IGES 5.3, type 0); what it gives is solidd's own
 abbrev pub null_pair : Pair
@@ -37,8 +36,8 @@ pub record IsOfType (kind : ℕ) (one two : List ℕ) : Type 0 where
   pub first : HoldsWithin 0 99999 kind (field 1 one)
   pub second : HoldsWithin 0 99999 kind (field 1 two) ⊎ AreBlanks (field 1 two)
 
--- the lines are this entry in a file with so many parameter lines: 1 and 11 the type, 2 the first parameter line, 14
--- how many there are, which all exist, 7 the matrix, 15 the form
+-- the lines are this entry in a file with so many parameter lines: 1 and 11 the type, 2 the first
+-- parameter line, 14 how many there are, which all exist, 7 the matrix, 15 the form
 pub record IsEntity (params : ℕ) (one two : List ℕ) (pair : Pair) : Type 0 where
   pub of_type : IsOfType pair.kind one two
   pub not_null : pair.kind ≢ 0

@@ -21,16 +21,17 @@ fn push_pair(pairs: &mut Vec<Pair>, pair: Pair) -> Result<(), AllocError>
 
 /// Reads the directory lines of a file with so many parameter lines. Each line has 80 columns.
 ///
-/// Two lines are one entry. Its numbers may have blanks on both sides and a sign; a blank field is 0.
-/// Fields 1 and 11 give the type, field 2 the first parameter line, field 14 how many there are, field 7
-/// the number of the matrix, field 15 the form. An entry of type 0 is the null entity, of which nothing
-/// else is read.
+/// Two lines are one entry. Its numbers may have blanks on both sides and a sign; a blank field is
+/// 0. Fields 1 and 11 give the type, field 2 the first parameter line, field 14 how many there are,
+/// field 7 the number of the matrix, field 15 the form. An entry of type 0 is the null entity, of
+/// which nothing else is read.
 ///
-/// OddLines comes first, then TooManyEntities, where there are more than 200,000 lines. Then the entries
-/// are checked in order, and of one entry: field 1 (0 to 99,999), field 11 (likewise), TypeDiffers, field
-/// 2 (a parameter line), field 14 (at least 1, and the lines exist), TooMuchText, where the entries so
-/// far have more than 500,000 parameter lines, field 7 (0 to 9,999,999), field 15 (0 to 99,999). A field
-/// that isn't a number in its range is BadField. Memory comes when out of memory.
+/// OddLines comes first, then TooManyEntities, where there are more than 200,000 lines. Then the
+/// entries are checked in order, and of one entry: field 1 (0 to 99,999), field 11 (likewise),
+/// TypeDiffers, field 2 (a parameter line), field 14 (at least 1, and the lines exist),
+/// TooMuchText, where the entries so far have more than 500,000 parameter lines, field 7 (0 to
+/// 9,999,999), field 15 (0 to 99,999). A field that isn't a number in its range is BadField. Memory
+/// comes when out of memory.
 pub fn read_directory(
     alloc: Global,
     lines: &BorrowedLines,
@@ -38,7 +39,8 @@ pub fn read_directory(
 ) -> Result<Vec<Pair>, DirFault>
     requires eighty { AllByRecursion (λ line. length line ≡ 80) lines.now }
     ensures found { IfOk result (λ pairs. directory_in params lines.now ≡ Ok pairs.items) }
-    ensures first_fault { IfErr result (λ fault. IsOfText fault → directory_in params lines.now ≡ Err fault) }
+    ensures first_fault { IfErr result (λ fault. IsOfText fault →
+        directory_in params lines.now ≡ Err fault) }
     ensures directory { IfOk result (λ pairs. IsDirectory params lines.now pairs.items) }
 {
     if lines.len() % 2 != 0 {

@@ -5,8 +5,8 @@ use solid_base::{Bytes, push_decimal, word, word_and_number};
 use std::alloc::{AllocError, Global};
 use thiserror::Error;
 
-/// Why lines are no directory. An entity is named by the number of its first line, a field by its number
-/// in the pair of lines, from 1 to 20.
+/// Why lines are no directory. An entity is named by the number of its first line, a field by its
+/// number in the pair of lines, from 1 to 20.
 #[derive(Clone, Copy, Debug, PartialEq, Eq, Error)]
 pub enum DirFault {
     /// Out of memory.
@@ -54,8 +54,8 @@ impl DirFault {
         }
     }
 
-    /// The fault as it is printed: its name and its numbers. AllocError when out of memory. Want of
-    /// memory itself is never printed.
+    /// The fault as it is printed: its name and its numbers. AllocError when out of memory.
+    /// Out of memory itself is never printed.
     pub fn write_fault(&self, alloc: Global) -> Result<Bytes, AllocError>
         requires { IsOfText self.now }
         ensures { IfOk result (λ words. words ≡ fault_words self.now) }

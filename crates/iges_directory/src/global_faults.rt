@@ -37,8 +37,8 @@ impl GlobalFault {
         }
     }
 
-    /// The fault as it is printed: its name and its number. AllocError when out of memory. Want
-    /// of memory itself is never printed.
+    /// The fault as it is printed: its name and its number. AllocError when out of memory.
+    /// Out of memory itself is never printed.
     pub fn write_fault(&self, alloc: Global) -> Result<Bytes, AllocError>
         requires { IsOfText self.now }
         ensures { IfOk result (λ words. words ≡ fault_words self.now) }

@@ -1,8 +1,8 @@
 use crate::{GlobalFault, read_global};
 use std::alloc::AllocError;
 
-/// What a text is read as: its delimiters and the number of its parameters from the third on, or the index
-/// of its first faulty parameter.
+/// What a text is read as: its delimiters and the number of its parameters from the third on, or
+/// the index of its first faulty parameter.
 #[derive(Clone, Copy)]
 enum Want {
     Found(u8, u8, usize),

@@ -1,10 +1,11 @@
 ghost use Rattle.std.specs.Prelude.{◌≡◌, ◌≤◌, ◌<◌, ◌^◌, length, IfOk, IfErr, OnOk, IsTrue};
 ghost use Rattle.iges_fields.specs.Delimiters.{is_lawful, AreDelimiters};
 ghost use Rattle.iges_fields.specs.Grammar.{IsField};
-ghost use Rattle.iges_fields.specs.Layout.{kind_of_token, content_of_token};
-ghost use Rattle.iges_directory.specs.Global.{AreFields, IsGlobal, IsFaultOf};
+ghost use Rattle.iges_fields.specs.Layout.{kind_of_token, content_of_token, AreFields};
+ghost use Rattle.iges_directory.specs.Global.{IsGlobal, IsFaultOf};
 ghost use Rattle.iges_directory.specs.GlobalReading.{told, first_in, second_in};
-ghost use Rattle.iges_directory.specs.GlobalSteps.{TellsFirst, TellsSecond, IsContent, IsOtherFault};
+ghost use Rattle.iges_directory.specs.GlobalSteps.{TellsFirst, TellsSecond, IsContent};
+ghost use Rattle.iges_directory.specs.GlobalSteps.{IsOtherFault};
 
 use crate::global_faults::GlobalFault;
 use iges_fields::{Field, FieldKind, Fields};
@@ -128,13 +129,14 @@ fn read_fields(alloc: Global, text: &[u8], comma: u8, semi: u8) -> Result<Tokens
 
 /// Reads the text of a global section, of at most 2^25 bytes.
 ///
-/// Parameter 1 tells `comma`, which stands between parameters, and parameter 2 tells `semi`, which ends
-/// the last; what stands after `semi` isn't read. Each is `1H` and the delimiter, or empty, which stands
-/// for `,` and for `;`. The delimiters are lawful and differ. The parameters after these are fields, of
-/// any number and with any values.
+/// Parameter 1 tells `comma`, which stands between parameters, and parameter 2 tells `semi`, which
+/// ends the last; what stands after `semi` isn't read. Each is `1H` and the delimiter, or empty,
+/// which stands for `,` and for `;`. The delimiters are lawful and differ. The parameters after
+/// these are fields, of any number and with any values.
 ///
-/// BadGlobal comes with the index of the first faulty parameter, counted from 1: it is no field, tells no
-/// lawful delimiter or `comma` again, or has no delimiter after it. Memory comes when out of memory.
+/// BadGlobal comes with the index of the first faulty parameter, counted from 1: it is no field,
+/// tells no lawful delimiter or `comma` again, or has no delimiter after it. Memory comes when out
+/// of memory.
 pub fn read_global(alloc: Global, text: &[u8]) -> Result<GlobalText, GlobalFault>
     requires size { length text.now ≤ 2 ^ 25 }
     ensures found { IfOk result (IsGlobal text.now) }

@@ -1,6 +1,6 @@
-//! The global section of a file and its directory: delimiters, parameters, and one entry a pair of lines.
-//! Contracts see a text as its bytes and lines as lists of their columns: `read_global` and `read_directory`
-//! give what the grammars find there, or the first fault.
+//! The global section of a file and its directory: delimiters, parameters, and one entry a pair of
+//! lines. Contracts see a text as its bytes and lines as lists of their columns: `read_global` and
+//! `read_directory` give what the grammars find there, or the first fault.
 #![tactic(auto)]
 
 mod directory;

@@ -1,13 +1,14 @@
 ghost use Rattle.std.specs.Prelude.{◌≡◌, ◌≤◌, ◌<◌, ◌+◌, ◌++◌, length, cond, IfOk, IfErr};
 ghost use Rattle.iges_directory.specs.DirectoryFaults.{IsOfText};
 ghost use Rattle.iges_directory.specs.ColumnNumbers.{number_in};
-ghost use Rattle.iges_directory.specs.Pairs.{null_pair, attributes, blank_attributes};
-ghost use Rattle.iges_directory.specs.DirectoryReading.{Gives, within, type_in, entity_in, pair_in};
+ghost use Rattle.iges_directory.specs.Pairs.{null_pair, attributes};
+ghost use Rattle.solid_base.specs.Outcomes.{Gives};
+ghost use Rattle.iges_directory.specs.DirectoryReading.{within, type_in, entity_in, pair_in};
 ghost use Rattle.std.specs.List.{list_all};
 
 use crate::directory_faults::DirFault;
 use crate::numbers::number_in;
-use solid_base::{Bytes, are_blanks};
+use solid_base::{Bytes, are_blanks, blank_attributes};
 use std::alloc::{AllocError, Global};
 
 /// The greatest type or form.
@@ -19,8 +20,8 @@ const MOST_LINE: u32 = 9_999_999;
 /// How many parameter lines all entities may have together.
 pub const MOST_TEXT: u32 = 500_000;
 
-/// One entry of the directory, by its pair of lines. That of the null entity has type 0, no parameter
-/// lines, and the attributes of an entity that sets none.
+/// One entry of the directory, by its pair of lines. That of the null entity has type 0, no
+/// parameter lines, and the attributes of an entity that sets none.
 #[derive(Debug, Drop)]
 pub struct Pair {
     /// The type of the entity.
@@ -79,16 +80,6 @@ fn attributes(alloc: Global, first: &[u8], second: &[u8]) -> Result<Bytes, Alloc
     Ok(Bytes::from_vec(attrs))
 }
 
-fn blank_attributes(alloc: Global) -> Result<Bytes, AllocError>
-    ensures { IfOk result (λ attrs. attrs ≡ blank_attributes) }
-{
-    let mut attrs = Bytes::new(alloc);
-    attrs.extend_from_slice(b"                                        ")?;
-    attrs.extend_from_slice(b"00000000")?;
-    attrs.extend_from_slice(b"                                                ")?;
-    Ok(attrs)
-}
-
 fn null_pair(alloc: Global) -> Result<Pair, DirFault>
     ensures value { IfOk result (λ pair. pair ≡ null_pair) }
     ensures memory { IfErr result (λ fault. IsOfText fault → ⊥) }
@@ -117,8 +108,10 @@ fn entity_in(
     requires first { length first.now ≡ 80 }
     requires second { length second.now ≡ 80 }
     requires text { text ≤ 500000 }
-    ensures found { IfOk result (λ pair. entity_in params text entity kind first.now second.now ≡ Ok pair) }
-    ensures fault { IfErr result (λ fault. IsOfText fault → entity_in params text entity kind first.now second.now ≡ Err fault) }
+    ensures found { IfOk result (λ pair.
+        entity_in params text entity kind first.now second.now ≡ Ok pair) }
+    ensures fault { IfErr result (λ fault. IsOfText fault →
+        entity_in params text entity kind first.now second.now ≡ Err fault) }
     ensures text { IfOk result (λ pair. text + pair.count ≤ 500000) }
 {
     let start = within(entity, 2, 1, params, &first[8..16])?;
@@ -151,8 +144,10 @@ pub fn pair_in(
     requires first { length first.now ≡ 80 }
     requires second { length second.now ≡ 80 }
     requires text { text ≤ 500000 }
-    ensures found { IfOk result (λ pair. pair_in params text entity first.now second.now ≡ Ok pair) }
-    ensures fault { IfErr result (λ fault. IsOfText fault → pair_in params text entity first.now second.now ≡ Err fault) }
+    ensures found { IfOk result (λ pair.
+        pair_in params text entity first.now second.now ≡ Ok pair) }
+    ensures fault { IfErr result (λ fault. IsOfText fault →
+        pair_in params text entity first.now second.now ≡ Err fault) }
     ensures text { IfOk result (λ pair. text + pair.count ≤ 500000) }
 {
     let kind = type_in(entity, first, second)?;

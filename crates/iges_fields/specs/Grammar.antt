@@ -1,4 +1,5 @@
--- What a field is, apart from how it is found (IGES 5.3, 2.2.2: constants of the free format; 2.2.3: delimiters).
+-- What a field is, apart from how it is found (IGES 5.3, 2.2.2 (constants) and 2.2.3
+-- (free format)).
 use Rattle.std.specs.Prelude.{◌≡◌, ℕ, ◌<◌, List, [], ◌∷◌, ◌++◌, Bool, cond, length}
 use Rattle.solid_base.specs.Digits.{AreDigits, number_of}
 use Rattle.solid_base.specs.Spelling.{AreBlanks, IsWhole, IsReal}
@@ -6,7 +7,8 @@ use Rattle.iges_fields.specs.declared.kinds.FieldKind.{FieldKind}
 use Rattle.iges_fields.specs.declared.kinds.FieldKind.TheVariants as kind
 use Rattle.iges_fields.specs.Reading.{Reading}
 
--- a text (IGES 5.3, 2.2.2.3: a string constant): the digits of its count, H, and that many bytes, whatever they are
+-- a text (IGES 5.3, 2.2.2 (constants): a string): the digits of its count, H, and that many bytes,
+-- whatever they are
 pub record IsText (content spelt : List ℕ) : Type 0 where
   pub digits : List ℕ
   pub are_digits : AreDigits digits
@@ -57,7 +59,8 @@ pub record IsOpen (text : List ℕ) : Type 0 where
   pub blank_after : AreBlanks after
   pub is : text ≡ before ++ (spelt ++ after)
 
--- a text begins with no field, with no count that runs past the end, and is no field without a delimiter
+-- a text begins with no field, with no count that runs past the end, and is no field without a
+-- delimiter
 pub record IsNoField (comma semi : ℕ) (text : List ℕ) : Type 0 where
   pub no_field : (field : Reading) → IsField comma semi text field → ⊥
   pub no_past : RunsPast text → ⊥

@@ -24,7 +24,7 @@ content_of_token (token.Whole text) = text
 content_of_token (token.Real text) = text
 content_of_token (token.Text text) = text
 
--- a text as its count, H and its bytes (IGES 5.3, 2.2.2.3); a number as it was spelt
+-- a text as its count, H and its bytes (IGES 5.3, 2.2.2 (constants)); a number as it was spelt
 abbrev pub spelling_of_token : Token → List ℕ
 spelling_of_token token.Empty = []
 spelling_of_token (token.Whole text) = text
@@ -73,7 +73,8 @@ is_last (t ∷ ts) = false
 abbrev pub AreFields : ℕ → ℕ → List ℕ → List Token → Type 0
 AreFields comma semi text [] = Unit {0}
 AreFields comma semi text (t ∷ ts) =
-    (rest : List ℕ) × IsField comma semi text (field_of t rest (is_last ts)) × AreFields comma semi rest ts
+    (rest : List ℕ) × IsField comma semi text (field_of t rest (is_last ts))
+    × AreFields comma semi rest ts
 
 -- what reading a text gives, field by field, is these tokens, and the record ends after the last
 abbrev pub Reads : ℕ → ℕ → List ℕ → List Token → Type 0
@@ -87,7 +88,8 @@ Reads comma semi text (t ∷ u ∷ ts) = (rest : List ℕ) × (field_at comma se
 abbrev pub piece : ℕ → Token → List ℕ
 piece d t = spelling_of_token t ++ d ∷ []
 
--- the blanks before a piece of so many bytes, where so many bytes are laid before it: none where it fits on the line or the line is still empty, else as many as fill the line
+-- the blanks before a piece of so many bytes, where so many bytes are laid before it: none where it
+-- fits on the line or the line is still empty, else as many as fill the line
 abbrev pub gap : ℕ → ℕ → ℕ → ℕ
 gap width used size = cond ((used % width == 0) || nat_le (used % width + size) width) 0 (width - used % width)
 

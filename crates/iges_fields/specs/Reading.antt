@@ -1,4 +1,5 @@
--- The next field of a record's text, found from the left (IGES 5.3, 2.2.3: the parameter delimiter stands between fields, the record delimiter after the last).
+-- The next field of a record's text, found from the left (IGES 5.3, 2.2.3 (free format): the parameter delimiter
+-- stands between fields, the record delimiter after the last).
 use Rattle.std.specs.Prelude.{ℕ, ◌+◌, List, [], ◌∷◌, Bool, true, false, cond, not, ◌&&◌, ◌||◌, ◌==◌, nat_lt, length, take, drop, Option, Some, None, Result, Ok, Err}
 use Rattle.std.specs.List.{prefix_len}
 use Rattle.solid_base.specs.Digits.{number_of}
@@ -9,7 +10,8 @@ use Rattle.iges_fields.specs.declared.kinds.FieldKind.TheVariants as kind
 use Rattle.iges_fields.specs.declared.faults.FieldFault.{FieldFault}
 use Rattle.iges_fields.specs.declared.faults.FieldFault.TheVariants as fault
 
--- a field that was read: its kind and content, what stands after its delimiter, and whether that delimiter ends the record
+-- a field that was read: its kind and content, what stands after its delimiter, and whether that
+-- delimiter ends the record
 pub record Reading : Type 0 where
   pub kind : FieldKind
   pub text : List ℕ
@@ -59,7 +61,8 @@ abbrev pub is_counted : ℕ → List ℕ → Bool
 is_counted count [] = false
 is_counted count (b ∷ bs) = not (count == 0) && (b == 72)
 
--- the field that begins here: a text where digits and H do, else one that runs to the next delimiter
+-- the field that begins here: a text where digits and H do, else one that runs to the next
+-- delimiter
 abbrev pub content_at : ℕ → ℕ → List ℕ → Result Reading FieldFault
 content_at comma semi bytes =
     cond (is_counted (digit_count bytes) (after_digits bytes))

@@ -4,9 +4,9 @@ ghost use Rattle.iges_fields.specs.Layout.{gap, AreLines};
 use solid_base::{Bytes, Lines};
 use std::alloc::{AllocError, Global};
 
-/// How many blanks stand before a piece of `size` bytes, where `used` bytes are laid before it in lines
-/// of this width: none where the piece fits on its line or the line is still empty, else as many as
-/// fill the line. Solidd's own.
+/// How many blanks stand before a piece of `size` bytes, where `used` bytes are laid before it in
+/// lines of this width: none where the piece fits on its line or the line is still empty, else as
+/// many as fill the line. Solidd's own.
 pub fn gap(width: u64, used: u64, size: u64) -> u64
     requires { 0 < width }
     ensures { result ≡ gap width used size }

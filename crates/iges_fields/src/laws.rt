@@ -3,7 +3,8 @@ ghost use Rattle.solid_base.specs.Texts.{IsOneLine};
 ghost use Rattle.solid_base.specs.declared.entities.Token.{Token};
 ghost use Rattle.iges_fields.specs.Delimiters.{AreDelimiters};
 ghost use Rattle.iges_fields.specs.Grammar.{IsField, RunsPast, IsOpen, IsNoField};
-ghost use Rattle.iges_fields.specs.Layout.{laid, AreSpelt, AreHeld, AreOneLine, Reads, AreFields, spelt_size};
+ghost use Rattle.iges_fields.specs.Layout.{laid, AreSpelt, AreHeld, AreOneLine, Reads, AreFields};
+ghost use Rattle.iges_fields.specs.Layout.{spelt_size};
 ghost use Rattle.iges_fields.specs.Reading.{Reading, field_at};
 
 use crate::faults::FieldFault;
@@ -16,7 +17,8 @@ pub fn reads_what_is_spelt()
 
 /// BadText comes exactly where the count of a text runs past the end.
 pub fn refuses_a_long_count()
-    ensures { (comma semi : ℕ) (text : List ℕ) → (field_at comma semi text ≡ Err FieldFault.BadText) ↔ RunsPast text }
+    ensures { (comma semi : ℕ) (text : List ℕ) →
+        (field_at comma semi text ≡ Err FieldFault.BadText) ↔ RunsPast text }
 {}
 
 /// NoEnd comes exactly where the whole text is a field with no delimiter after it.
@@ -38,14 +40,15 @@ pub fn laid_tokens_read_back()
         Reads comma semi (laid width comma semi 0 tokens ++ after) tokens }
 {}
 
-/// In lines of any width tokens take at most twice as many bytes as they are spelt with, each with a
-/// delimiter after it: the blanks before a token are fewer than its own bytes.
+/// In lines of any width tokens take at most twice as many bytes as they are spelt with, each with
+/// a delimiter after it: the blanks before a token are fewer than its own bytes.
 pub fn laid_tokens_take_twice_their_room()
     ensures { (width comma semi : ℕ) (tokens : List Token) →
         length (laid width comma semi 0 tokens) ≤ 2 * spelt_size tokens }
 {}
 
-/// The tokens of a text are spelt with no more bytes than the text has, each with a delimiter after it.
+/// The tokens of a text are spelt with no more bytes than the text has, each with a delimiter after
+/// it.
 pub fn tokens_are_no_longer_than_their_text()
     ensures { (comma semi : ℕ) (text : List ℕ) (tokens : List Token) → length text < 2 ^ 64 →
         AreFields comma semi text tokens → spelt_size tokens ≤ length text }

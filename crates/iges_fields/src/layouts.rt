@@ -1,8 +1,10 @@
-ghost use Rattle.std.specs.Prelude.{◌≡◌, ◌⊎◌, ℕ, ◌+◌, ◌-◌, ◌<◌, ◌≤◌, ◌++◌, ◌==◌, List, length, replicate, IfOk, OnOk};
+ghost use Rattle.std.specs.Prelude.{◌≡◌, ◌⊎◌, ℕ, ◌+◌, ◌-◌, ◌<◌, ◌≤◌, ◌++◌, ◌==◌, List, length};
+ghost use Rattle.std.specs.Prelude.{replicate, IfOk, OnOk};
 ghost use Rattle.std.specs.List.{concat};
 ghost use Rattle.iges_fields.specs.Delimiters.{AreDelimiters};
 ghost use Rattle.iges_fields.specs.Grammar.{delimiter};
-ghost use Rattle.iges_fields.specs.Layout.{spelling_of_token, piece, gap, placed, laid, AreSpelt, AreHeld, IsHeld, IsSpelt, AreLines, Reads};
+ghost use Rattle.iges_fields.specs.Layout.{spelling_of_token, piece, gap, placed, laid, AreSpelt};
+ghost use Rattle.iges_fields.specs.Layout.{AreHeld, IsHeld, IsSpelt, AreLines, Reads};
 
 use crate::filling::{gap, lines_of};
 use itoa::Buffer;
@@ -47,7 +49,8 @@ fn delimiter(place: usize, count: usize, comma: u8, semi: u8) -> u8
 
 fn place(out: &mut Vec<u8>, bytes: &[u8], width: usize) -> Result<(), AllocError>
     requires { 0 < width }
-    ensures { OnOk result (out.new.items ≡ out.old.items ++ placed width (length out.old.items) bytes.now) }
+    ensures { OnOk result (out.new.items
+        ≡ out.old.items ++ placed width (length out.old.items) bytes.now) }
 {
     let blanks = gap(width as u64, out.len() as u64, bytes.len() as u64) as usize;
     let start = out.len().checked_add(blanks).ok_or(AllocError)?;
@@ -80,10 +83,10 @@ fn laid(
     Ok(text)
 }
 
-/// The lines in which tokens are written, each of this many columns. Each token has a delimiter after
-/// it, `semi` the last and `comma` the others, and they lie one after the other; but a token that would
-/// run past its line's end starts on the next line, if anything stands before it, and may then run on
-/// over several. The last line is filled up with blanks.
+/// The lines in which tokens are written, each of this many columns. Each token has a delimiter
+/// after it, `semi` the last and `comma` the others, and they lie one after the other; but a token
+/// that would run past its line's end starts on the next line, if anything stands before it, and
+/// may then run on over several. The last line is filled up with blanks.
 pub fn lay(
     alloc: Global,
     tokens: &Tokens,
@@ -98,7 +101,8 @@ pub fn lay(
     ensures laid { IfOk result (AreLines width (laid width comma semi 0 tokens.now)) }
 
     // Whatever stands after the lines, they read back as the tokens.
-    ensures reads_back { IfOk result (λ lines. (after : List ℕ) → Reads comma semi (concat lines ++ after) tokens.now) }
+    ensures reads_back { IfOk result (λ lines. (after : List ℕ) →
+        Reads comma semi (concat lines ++ after) tokens.now) }
 {
     let text = laid(alloc, tokens.as_slice(), comma, semi, width)?;
     lines_of(alloc, text.as_slice(), width)
@@ -133,8 +137,8 @@ mod tests {
     #[test]
     fn lays_tokens_where_they_fit(rt: HostRuntime) -> Result<(), AllocError> {
         let alloc = rt.alloc();
-        // The size of a text of commas between two numbers, how many lines there are, and the column of
-        // the last at which the second number begins.
+        // The size of a text of commas between two numbers, how many lines there are, and the
+        // column of the last at which the second number begins.
         let cases = [
             (0, 1, 7),
             (52, 1, 60),

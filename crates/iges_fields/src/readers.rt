@@ -89,8 +89,10 @@ fn ended_at<'a>(
 ) -> Option<Found<'a>>
     requires { length end.now ≤ length bytes.now }
     ensures kind { IfSome result (λ found. found.field.kind ≡ kind) }
-    ensures text { IfSome result (λ found. found.field.text.now ≡ take (length bytes.now - length end.now) bytes.now) }
-    ensures ended { IfSome result (λ found. end.now ≡ delimiter comma semi found.ended ∷ found.rest.now) }
+    ensures text { IfSome result (λ found.
+        found.field.text.now ≡ take (length bytes.now - length end.now) bytes.now) }
+    ensures ended { IfSome result (λ found.
+        end.now ≡ delimiter comma semi found.ended ∷ found.rest.now) }
 {
     let text = &bytes[..bytes.len() - end.len()];
     let field = Field { kind, text };
@@ -109,8 +111,8 @@ fn ended_at<'a>(
     }
 }
 
-/// The number that stands here without an exponent and right before a delimiter, as most numbers do.
-/// Its bytes are looked at once.
+/// The number that stands here without an exponent and right before a delimiter, as most numbers
+/// do. Its bytes are looked at once.
 fn number_at<'a>(bytes: &'a [u8], comma: u8, semi: u8) -> Option<Found<'a>>
     ensures { IfSome result (λ found. IsField comma semi bytes.now (reading_of found)) }
 {
@@ -170,11 +172,11 @@ fn field_after<'a>(
 
 /// A reader of the fields of a record's text, which it borrows.
 ///
-/// `comma` stands between fields and `semi` after the last; what follows `semi` is not read. Blanks,
-/// which are spaces and tabs, may stand before and after a field's content. A content that begins with
-/// digits and `H` is a text of that many bytes, whatever they are; any other runs to the next delimiter,
-/// and is empty, a whole number or a real number. A real number has a point or an exponent, which is
-/// `E`, `D`, `e` or `d`, an optional sign and digits.
+/// `comma` stands between fields and `semi` after the last; what follows `semi` is not read.
+/// Blanks, which are spaces and tabs, may stand before and after a field's content. A content that
+/// begins with digits and `H` is a text of that many bytes, whatever they are; any other runs to
+/// the next delimiter, and is empty, a whole number or a real number. A real number has a point or
+/// an exponent, which is `E`, `D`, `e` or `d`, an optional sign and digits.
 #[derive(Debug, Drop)]
 pub struct Fields<'a> {
     rest: &'a [u8],
@@ -215,8 +217,8 @@ impl<'a> Fields<'a> {
     /// The next field, or None where the last field ended at `semi`.
     ///
     /// BadText comes where a text's count runs past the end, BadToken where what stands before the
-    /// delimiter is no field, and NoEnd where a field is the text's end with no delimiter after it. The
-    /// reader is then as it was.
+    /// delimiter is no field, and NoEnd where a field is the text's end with no delimiter after it.
+    /// The reader is then as it was.
     pub fn next(&mut self) -> Result<Option<Field<'a>>, FieldFault>
         ensures { IsNext self.old self.new result }
     {
@@ -235,7 +237,8 @@ mod tests {
     use super::*;
     use std::alloc::{AllocError, Global};
 
-    /// Each field as a letter and its content in brackets, then `.` at the end, or a fault's number.
+    /// Each field as a letter and its content in brackets, then `.` at the end, or a fault's
+    /// number.
     fn shown(alloc: Global, text: &[u8]) -> Result<Vec<u8>, AllocError> {
         let mut out = Vec::new(alloc);
         let mut fields = Fields::new(text, b',', b';');
