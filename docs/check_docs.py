@@ -158,10 +158,8 @@ def cited():
             if name:
                 functions.add((crate, name))
             known = imports_of(text, r"ghost use")
-            clauses = " ".join(re.findall(r"(?:requires|ensures|ghost)\b[^{]*\{.*?\}\s*(?=,|;|$|requires|ensures)", contract, re.S))
-            for word in set(WORD.findall(clauses or contract)):
-                if word in known:
-                    seeds.add(known[word])
+            clauses = re.split(r"\b(?:requires|ensures|ghost)\b", contract)[1:]
+            seeds.update(known[word] for word in WORD.findall(" ".join(clauses)) if word in known)
     return seeds, functions
 
 
@@ -238,26 +236,28 @@ def stale_rows(texts):
                 for piece in TICKED.findall(line.split("|")[1]):
                     name = WORD.findall(piece)[:1]
                     if name and name[0] not in here:
-                        yield "stale: docs/DEFINITIONS.md: %s isn't in the files of its section: %s" % (name[0], part[0])
+                        yield "stale: docs/DEFINITIONS.md: %s isn't in a file of %s" % (name[0], part[0].lstrip("# "))
+
+
+def names_in_files():
+    """Every word of the crates, the scripts and the launcher, and of the paths of their files."""
+    known = set()
+    for pattern in ("crates/**/*.rt", "crates/**/*.antt", "crates/**/*.edit", "bench/*.py", "docs/*.py", "crates.txt"):
+        for path in files(pattern):
+            known.update(WORD.findall(open(path, encoding="utf-8").read()))
+            known.update(WORD.findall(path[len(ROOT) :]))
+    return known | set(WORD.findall(read("solidd")))
 
 
 def stale_names():
-    known = set()
-    for pattern in ("crates/**/*.rt", "crates/**/*.antt", "crates/**/*.edit", "bench/*", "docs/*.py", "solidd", "crates.txt", ".ci/run"):
-        for path in files(pattern):
-            if os.path.isfile(path):
-                known.update(WORD.findall(open(path, encoding="utf-8").read()))
-                known.update(WORD.findall(path[len(ROOT) :]))
+    """Names in backticks, with an underscore or a capital inside, that stand nowhere."""
+    known = names_in_files() | FOREIGN
     for page in PAGES:
         for number, line in enumerate(read(page).splitlines(), 1):
-            if line.startswith("    "):
-                continue
-            for piece in TICKED.findall(line):
-                if re.fullmatch(r"[A-Za-z][\w:]*(\(\))?", piece):
-                    for name in WORD.findall(piece):
-                        odd = "_" in name or name[1:] != name[1:].lower()
-                        if odd and name not in known and name not in FOREIGN:
-                            yield "stale: %s:%d: %s stands nowhere" % (page, number, name)
+            pieces = [] if line.startswith("    ") else TICKED.findall(line)
+            for name in WORD.findall(" ".join(p for p in pieces if re.fullmatch(r"[A-Za-z][\w:]*(\(\))?", p))):
+                if len(name) > 2 and ("_" in name or name[1:] != name[1:].lower()) and name not in known:
+                    yield "stale: %s:%d: %s stands nowhere" % (page, number, name)
 
 
 def stale_files():
@@ -304,7 +304,8 @@ def missing_faults():
     """Each variant of a fault type and each status, as printed."""
     pages = {page: set(WORD.findall(read(page))) for page in ("docs/ERRORS.md", "docs/FORMATS.md")}
     for path in files("crates/*/src/**/*.rt"):
-        for kind, body in re.findall(r"pub enum (\w*Fault|Status) \{(.*?)\n\}", open(path, encoding="utf-8").read(), re.S):
+        text = open(path, encoding="utf-8").read()
+        for kind, body in re.findall(r"pub enum (\w*Fault|Status) \{(.*?)\n\}", text, re.S):
             for variant in re.findall(r"^    (\w+)[,( {]", body, re.M):
                 for page, words in pages.items():
                     if variant not in words and variant not in ("Card", "Global", "Directory", "Graph", "File"):
@@ -357,7 +358,7 @@ def comments():
 
 def index(seeds, reached, texts):
     heads, above = comments()
-    order = [line.split(":")[0].split()[0] for line in read("crates.txt").splitlines() if line.split("#")[0].strip()]
+    order = [line.split(":")[0] for line in read("crates.txt").splitlines() if line.split("#")[0].strip()]
     out = ["# Index of definitions", ""]
     out += ["Written by `python3 docs/check_docs.py --write`: every definition that a public contract cites,"]
     out += ["itself or through others, with its comment from specs/. A contract cites those in bold itself;"]
