@@ -5,7 +5,7 @@ use Rattle.solid_base.specs.declared.entities.Entity.{Entity}
 use Rattle.solid_base.specs.References.{row_at, Reaches}
 use Rattle.entity_graph.specs.Opaque.{IsOpaque, ReachesOpaque, IsFirstOpaque}
 use Rattle.entity_graph.proofs.Decided.{turned, both_decided, first_or_ever}
-use Rattle.entity_graph.proofs.RowsDecided.{bound, row_past, opaque_decided}
+use Rattle.entity_graph.proofs.RowsDecided.{bound, row_past, unread_decided}
 use Rattle.entity_graph.proofs.Leading.{reaches_decided}
 
 opaque_past : (rows : List Entity) (e k : ℕ) → bound rows ≤ k → ¬ ReachesOpaque rows e k
@@ -14,7 +14,7 @@ opaque_past rows e k past w = rw (row_past rows k past) at w.1
 -- each entity has its least unread row, or none
 pub first_opaque_some : (rows : List Entity) (e : ℕ) → (n : ℕ) × IsFirstOpaque rows e n
 first_opaque_some rows e =
-    go (first_or_ever (λ k. ¬ ReachesOpaque rows e k) (ReachesOpaque rows e) (λ k. turned (ReachesOpaque rows e k) (¬ ReachesOpaque rows e k) (both_decided (Reaches rows e k) (IsOpaque (row_at rows k)) (reaches_decided rows e k) (opaque_decided (row_at rows k)))) (bound rows) (opaque_past rows e)) where
+    go (first_or_ever (λ k. ¬ ReachesOpaque rows e k) (ReachesOpaque rows e) (λ k. turned (ReachesOpaque rows e k) (¬ ReachesOpaque rows e k) (both_decided (Reaches rows e k) (IsOpaque rows k) (reaches_decided rows e k) (unread_decided (row_at rows k)))) (bound rows) (opaque_past rows e)) where
       least : (n k : ℕ) → ((j : ℕ) → j < n → ¬ ReachesOpaque rows e j) → ReachesOpaque rows e k → (k < n) ⊎ (n ≤ k) → n ≤ k
       least n k earlier w (inl below) = absurd (earlier k below w)
       least n k earlier w (inr up) = up

@@ -18,3 +18,4 @@ pub mod RowsDecided
 pub mod Leading
 pub mod OneOfBoth
 pub mod FirstOpaques
+pub mod Found

@@ -18,7 +18,7 @@ use Rattle.entity_graph.proofs.Levels.{depth_step, no_levels}
 use Rattle.entity_graph.proofs.Opaques.{opaque_step}
 
 module _ (rows : List Entity) where
-  pub right_step : (m : Measure) → IsReady m rows → (f : ℕ → ℕ) (e : ℕ) → ((c : ℕ) → Refers rows e c → Right m rows c (f c)) → Right m rows e (step m f e (row_at rows e))
+  pub right_step : (m : Measure) → IsReady m rows → (f : ℕ → ℕ) (e : ℕ) → ((c : ℕ) → Refers rows e c → Right m rows c (f c)) → Right m rows e (step m rows f e)
   right_step measure.Depth ready f e h =
       let s = depth_step rows e in
       let g = greatest_same f (depth_of rows) (references (row_at rows e)) h in
@@ -33,7 +33,7 @@ module _ (rows : List Entity) where
     -- the entry after the right ones is right too
     pub right_more : (i n : ℕ) → i < length order → length table ≡ length rows → IsReady m rows
         → ((j : ℕ) → j < i → Right m rows (2 * get_or order j 0 + 1) (get_or table (get_or order j 0) 0))
-        → n ≡ step m (entry table) (2 * get_or order i 0 + 1) (row_at rows (2 * get_or order i 0 + 1))
+        → n ≡ step m rows (entry table) (2 * get_or order i 0 + 1)
         → (j : ℕ) → j < i + 1 → Right m rows (2 * get_or order j 0 + 1) (get_or (set table (get_or order i 0) n) (get_or order j 0) 0)
     right_more i n h size ready right q j l =
         let at = get_or order i 0 in

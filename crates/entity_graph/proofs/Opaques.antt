@@ -4,9 +4,9 @@ use Rattle.std.specs.List.{Contains}
 use Rattle.solid_base.specs.declared.entities.Entity.{Entity}
 use Rattle.solid_base.specs.declared.solids.Row.{Row}
 use Rattle.solid_base.specs.declared.solids.Row.TheVariants as row
-use Rattle.solid_base.specs.References.{references_of, references, row_at, Refers, Reaches, here, further}
-use Rattle.entity_graph.specs.Opaque.{IsOpaque, ReachesOpaque, IsFirstOpaque}
-use Rattle.entity_graph.specs.Measures.{lesser, least, first_opaque}
+use Rattle.solid_base.specs.References.{references, row_at, Refers, Reaches, here, further}
+use Rattle.entity_graph.specs.Opaque.{IsUnread, IsOpaque, ReachesOpaque, IsFirstOpaque}
+use Rattle.entity_graph.specs.Measures.{lesser, least, number_unread}
 use Rattle.std.proofs.lemmas.Bool.{cases_lt}
 use Rattle.entity_graph.proofs.Numbers.{is_number}
 use Rattle.entity_graph.proofs.Sums.{at_head, at_tail}
@@ -55,8 +55,11 @@ module _ (rows : List Entity) where
   null_row : row_at rows 0 ≡ row.Null
   null_row = elim (is_number rows 0) [ inl n ↦ absurd (let a = n.0 in omega arith) | inr z ↦ z ]
 
+  not_null : ¬ IsOpaque rows 0
+  not_null o = subst IsUnread null_row o
+
   not_zero : (c : ℕ) → ¬ ReachesOpaque rows c 0
-  not_zero c h = subst IsOpaque null_row h.1
+  not_zero c h = not_null h.1
 
   least_right : (f : ℕ → ℕ) (ns : List ℕ) → ((c : ℕ) → Contains ns c → IsFirstOpaque rows c (f c)) → Leastly (Through ns) (least f ns)
   least_right f [] h = inl (refl, λ k t. let l = t.1.1 in omega arith)
@@ -69,44 +72,37 @@ module _ (rows : List Entity) where
         split k c (zero, l, e) r = inl (subst (λ c. ReachesOpaque rows c k) (sym e) r)
         split k c (suc j, l, e) r = inr (c, (j, omega arith, e), r)
 
-  onward : (e k : ℕ) → ¬ IsOpaque (row_at rows e) → ReachesOpaque rows e k → Through (references (row_at rows e)) k
-  onward e k n (here, o) = absurd (n o)
-  onward e k n (further {c = c} m r, o) = (c, m, (r, o))
+  -- the entity e itself, which isn't read
+  abbrev Itself : ℕ → ℕ → Type 0
+  Itself e k = (k ≡ e) × IsOpaque rows k
 
-  pub through : (f : ℕ → ℕ) (e : ℕ) → ¬ IsOpaque (row_at rows e) → ((c : ℕ) → Refers rows e c → IsFirstOpaque rows c (f c)) → IsFirstOpaque rows e (least f (references (row_at rows e)))
-  through f e n h =
-      least_like (Through (references (row_at rows e))) (ReachesOpaque rows e) (least f (references (row_at rows e)))
-      (λ k t. (further t.1 t.2.0, t.2.1)) (λ k r. onward e k n r) (least_right f (references (row_at rows e)) h)
+  itself_right : (e : ℕ) → Leastly (Itself e) (number_unread e (row_at rows e))
+  itself_right e = by_row (row_at rows e) refl where
+    read : (r : Row) → row_at rows e ≡ r → ¬ IsUnread r → Leastly (Itself e) 0
+    read r q n = inl (refl, λ k t. n (subst IsUnread q (subst (IsOpaque rows) t.0 t.1)))
 
-  itself : (e : ℕ) → IsOpaque (row_at rows e) → ((c : ℕ) → ¬ Refers rows e c) → IsFirstOpaque rows e e
-  itself e o n = inr ((here, o), λ k r. reached k r.0) where
-    reached : (k : ℕ) → Reaches rows e k → e ≤ k
-    reached k here = omega arith
-    reached k (further {c = c} m r) = absurd (n c m)
+    by_row : (r : Row) → row_at rows e ≡ r → Leastly (Itself e) (number_unread e r)
+    by_row row.Null q = read row.Null q (λ u. u)
+    by_row (row.Opaque kind form matrix text) q = inr ((refl, subst IsUnread (sym q) tt), λ k t. let z = t.0 in omega arith)
+    by_row (row.Matrix form affine next) q = read (row.Matrix form affine next) q (λ u. u)
+    by_row (row.Prim p matrix) q = read (row.Prim p matrix) q (λ u. u)
+    by_row (row.Tree items matrix) q = read (row.Tree items matrix) q (λ u. u)
+    by_row (row.Assembly items matrix) q = read (row.Assembly items matrix) q (λ u. u)
+    by_row (row.Instance child matrix) q = read (row.Instance child matrix) q (λ u. u)
 
-  opaque_names : (e c kind form matrix : ℕ) (text : List ℕ) → row_at rows e ≡ row.Opaque kind form matrix text → ¬ Refers rows e c
-  unfolding references_of
-  opaque_names e c kind form matrix text q h = let t = subst (λ r. Contains (references r) c) q h in let l = t.1 in omega arith
+  onward : (e k : ℕ) → ReachesOpaque rows e k → Itself e k ⊎ Through (references (row_at rows e)) k
+  onward e k (here, o) = inl (refl, o)
+  onward e k (further {c = c} m r, o) = inr (c, m, (r, o))
 
-  pub opaque_step : (f : ℕ → ℕ) (e : ℕ) → ((c : ℕ) → Refers rows e c → IsFirstOpaque rows c (f c)) → IsFirstOpaque rows e (first_opaque f e (row_at rows e))
-  opaque_step f e h = by_row (row_at rows e) refl where
-    with_row : (r : Row) → row_at rows e ≡ r → ¬ IsOpaque r → IsFirstOpaque rows e (least f (references r))
-    with_row r q n = subst (λ r. IsFirstOpaque rows e (least f (references r))) q (through f e (λ o. n (subst IsOpaque q o)) h)
+  back : (e k : ℕ) → Itself e k ⊎ Through (references (row_at rows e)) k → ReachesOpaque rows e k
+  back e k (inl t) = (subst (Reaches rows e) (sym t.0) here, t.1)
+  back e k (inr t) = (further t.1 t.2.0, t.2.1)
 
-    by_row : (r : Row) → row_at rows e ≡ r → IsFirstOpaque rows e (first_opaque f e r)
-    by_row row.Null q = with_row row.Null q (λ o. o)
-    by_row (row.Opaque kind form matrix text) q = itself e (subst IsOpaque (sym q) tt) (λ c. opaque_names e c kind form matrix text q)
-    by_row (row.Matrix form affine next) q = with_row (row.Matrix form affine next) q (λ o. o)
-    by_row (row.Prim p matrix) q = with_row (row.Prim p matrix) q (λ o. o)
-    by_row (row.Tree items matrix) q = with_row (row.Tree items matrix) q (λ o. o)
-    by_row (row.Assembly items matrix) q = with_row (row.Assembly items matrix) q (λ o. o)
-    by_row (row.Instance child matrix) q = with_row (row.Instance child matrix) q (λ o. o)
-
-pub first_plain : (f : ℕ → ℕ) (e : ℕ) (r : Row) → ((kind form matrix : ℕ) (text : List ℕ) → r ≡ row.Opaque kind form matrix text → ⊥) → first_opaque f e r ≡ least f (references r)
-first_plain f e row.Null n = refl
-first_plain f e (row.Opaque kind form matrix text) n = absurd (n kind form matrix text refl)
-first_plain f e (row.Matrix form affine next) n = refl
-first_plain f e (row.Prim p matrix) n = refl
-first_plain f e (row.Tree items matrix) n = refl
-first_plain f e (row.Assembly items matrix) n = refl
-first_plain f e (row.Instance child matrix) n = refl
+  -- the entry of an entity, from those of the entities that it names
+  pub opaque_step : (f : ℕ → ℕ) (e : ℕ) → ((c : ℕ) → Refers rows e c → IsFirstOpaque rows c (f c))
+      → IsFirstOpaque rows e (lesser (number_unread e (row_at rows e)) (least f (references (row_at rows e))))
+  opaque_step f e h =
+      least_like (λ k. Itself e k ⊎ Through (references (row_at rows e)) k) (ReachesOpaque rows e) (lesser (number_unread e (row_at rows e)) (least f (references (row_at rows e))))
+      (back e) (onward e)
+      (least_of_two (Itself e) (Through (references (row_at rows e))) (λ t. not_null t.1) (λ t. not_zero t.0 t.2) (number_unread e (row_at rows e)) (least f (references (row_at rows e)))
+      (itself_right e) (least_right f (references (row_at rows e)) h))

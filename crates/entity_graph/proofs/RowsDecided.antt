@@ -9,7 +9,7 @@ use Rattle.solid_base.specs.declared.references.Reference.{Reference}
 use Rattle.solid_base.specs.declared.references.Reference.TheVariants as reference
 use Rattle.solid_base.specs.References.{row_or_null, row_at, target, references_of, references, Refers}
 use Rattle.solid_base.specs.Graph.{IsDangling, IsMatrix, IsMisdirected}
-use Rattle.entity_graph.specs.Opaque.{IsOpaque}
+use Rattle.entity_graph.specs.Opaque.{IsUnread}
 use Rattle.entity_graph.proofs.Decided.{Decided, not_decided, contains_decided}
 
 null_decided : (r : Row) → Decided (r ≡ row.Null)
@@ -31,14 +31,14 @@ matrix_decided (row.Assembly items matrix) = inr (λ h. h)
 matrix_decided (row.Instance child matrix) = inr (λ h. h)
 
 -- a row is read or not
-pub opaque_decided : (r : Row) → Decided (IsOpaque r)
-opaque_decided row.Null = inr (λ h. h)
-opaque_decided (row.Opaque kind form matrix text) = inl tt
-opaque_decided (row.Matrix form affine next) = inr (λ h. h)
-opaque_decided (row.Prim p matrix) = inr (λ h. h)
-opaque_decided (row.Tree items matrix) = inr (λ h. h)
-opaque_decided (row.Assembly items matrix) = inr (λ h. h)
-opaque_decided (row.Instance child matrix) = inr (λ h. h)
+pub unread_decided : (r : Row) → Decided (IsUnread r)
+unread_decided row.Null = inr (λ h. h)
+unread_decided (row.Opaque kind form matrix text) = inl tt
+unread_decided (row.Matrix form affine next) = inr (λ h. h)
+unread_decided (row.Prim p matrix) = inr (λ h. h)
+unread_decided (row.Tree items matrix) = inr (λ h. h)
+unread_decided (row.Assembly items matrix) = inr (λ h. h)
+unread_decided (row.Instance child matrix) = inr (λ h. h)
 
 -- a reference names a row that stands there or not
 pub dangling_decided : (rows : List Entity) (r : Reference) → Decided (IsDangling rows r)

@@ -3,7 +3,7 @@ use Rattle.std.specs.Prelude.{◌≡◌, ℕ, zero, suc, List, [], ◌∷◌, mi
 use Rattle.solid_base.specs.declared.entities.Entity.{Entity}
 use Rattle.solid_base.specs.declared.solids.Row.{Row}
 use Rattle.solid_base.specs.declared.solids.Row.TheVariants as row
-use Rattle.solid_base.specs.References.{references}
+use Rattle.solid_base.specs.References.{references, row_at}
 use Rattle.solid_base.specs.Graph.{greatest, row_weight, depth_of, weight_of, most_levels, most_weight}
 use Rattle.entity_graph.specs.FirstFaults.{AreShallow}
 use Rattle.entity_graph.specs.Opaque.{IsFirstOpaque}
@@ -21,21 +21,21 @@ abbrev pub least : (ℕ → ℕ) → List ℕ → ℕ
 least f [] = 0
 least f (n ∷ ns) = lesser (f n) (least f ns)
 
--- the first row that isn't read, from those of the rows that a row names
-abbrev pub first_opaque : (ℕ → ℕ) → ℕ → Row → ℕ
-first_opaque f e row.Null = least f (references row.Null)
-first_opaque f e (row.Opaque kind form matrix text) = e
-first_opaque f e (row.Matrix form affine next) = least f (references (row.Matrix form affine next))
-first_opaque f e (row.Prim p matrix) = least f (references (row.Prim p matrix))
-first_opaque f e (row.Tree items matrix) = least f (references (row.Tree items matrix))
-first_opaque f e (row.Assembly items matrix) = least f (references (row.Assembly items matrix))
-first_opaque f e (row.Instance child matrix) = least f (references (row.Instance child matrix))
+-- the number of a row that isn't read, 0 where it is read
+abbrev pub number_unread : ℕ → Row → ℕ
+number_unread e row.Null = 0
+number_unread e (row.Opaque kind form matrix text) = e
+number_unread e (row.Matrix form affine next) = 0
+number_unread e (row.Prim p matrix) = 0
+number_unread e (row.Tree items matrix) = 0
+number_unread e (row.Assembly items matrix) = 0
+number_unread e (row.Instance child matrix) = 0
 
 -- the entry of the row with the number e, from the entries of those that it names
-abbrev pub step : Measure → (ℕ → ℕ) → ℕ → Row → ℕ
-step measure.Depth f e r = min (suc most_levels) (suc (greatest f (references r)))
-step measure.Weight f e r = min (suc most_weight) (row_weight f r)
-step measure.Opaque f e r = first_opaque f e r
+abbrev pub step : Measure → List Entity → (ℕ → ℕ) → ℕ → ℕ
+step measure.Depth rows f e = min (suc most_levels) (suc (greatest f (references (row_at rows e))))
+step measure.Weight rows f e = min (suc most_weight) (row_weight f (row_at rows e))
+step measure.Opaque rows f e = lesser (number_unread e (row_at rows e)) (least f (references (row_at rows e)))
 
 -- what has to be known before a table is made
 abbrev pub IsReady : Measure → List Entity → Type 0

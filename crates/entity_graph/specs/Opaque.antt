@@ -5,21 +5,25 @@ use Rattle.solid_base.specs.declared.solids.Row.{Row}
 use Rattle.solid_base.specs.declared.solids.Row.TheVariants as row
 use Rattle.solid_base.specs.References.{row_at, Reaches}
 
--- solidd's own: an entity that isn't read
-abbrev pub IsOpaque : Row → Type 0
-IsOpaque row.Null = ⊥
-IsOpaque (row.Opaque kind form matrix text) = Unit {0}
-IsOpaque (row.Matrix form affine next) = ⊥
-IsOpaque (row.Prim p matrix) = ⊥
-IsOpaque (row.Tree items matrix) = ⊥
-IsOpaque (row.Assembly items matrix) = ⊥
-IsOpaque (row.Instance child matrix) = ⊥
+-- solidd's own: a row of a type or form that isn't read
+abbrev pub IsUnread : Row → Type 0
+IsUnread row.Null = ⊥
+IsUnread (row.Opaque kind form matrix text) = Unit {0}
+IsUnread (row.Matrix form affine next) = ⊥
+IsUnread (row.Prim p matrix) = ⊥
+IsUnread (row.Tree items matrix) = ⊥
+IsUnread (row.Assembly items matrix) = ⊥
+IsUnread (row.Instance child matrix) = ⊥
 
--- solidd's own: the entity e reaches k, which isn't read
+-- solidd's own: an entity that can't be evaluated by itself, since its row isn't read
+abbrev pub IsOpaque : List Entity → ℕ → Type 0
+IsOpaque rows e = IsUnread (row_at rows e)
+
+-- solidd's own: the entity e reaches k, which can't be evaluated
 abbrev pub ReachesOpaque : List Entity → ℕ → ℕ → Type 0
-ReachesOpaque rows e k = Reaches rows e k × IsOpaque (row_at rows k)
+ReachesOpaque rows e k = Reaches rows e k × IsOpaque rows k
 
--- solidd's own: n is the least number of an entity that e reaches and that isn't read, or 0 where e reaches none
+-- solidd's own: n is the least number of an entity that e reaches and that can't be evaluated, or 0 where e reaches none
 abbrev pub IsFirstOpaque : List Entity → ℕ → ℕ → Type 0
 IsFirstOpaque rows e n =
     ((n ≡ 0) × ((k : ℕ) → ¬ ReachesOpaque rows e k)) ⊎ (ReachesOpaque rows e n × ((k : ℕ) → ReachesOpaque rows e k → n ≤ k))

@@ -6,7 +6,8 @@ ghost use Rattle.entity_graph.specs.FirstFaults.{IsFault};
 ghost use Rattle.entity_graph.specs.Opaque.{IsFirstOpaque};
 
 use crate::graph_faults::GraphFault;
-use crate::rules::read_links;
+use crate::links::Links;
+use crate::rules::check_references;
 use crate::stages::{find_depths, find_places, find_weights};
 use crate::tables::Measure;
 use solid_base::Rows;
@@ -48,7 +49,8 @@ impl Graph {
         ensures sound { IfOk result (λ _. AreSound rows.now) }
         ensures first_fault { IfErr result (λ fault. IsOfText fault → IsFault rows.now fault) }
     {
-        let links = read_links(alloc, rows.share(alloc)?)?;
+        let links = Links::read(alloc, rows.share(alloc)?)?;
+        check_references(&links)?;
         let order = find_places(alloc, &links)?;
         let depths = find_depths(alloc, &links, &order)?;
         let weights = find_weights(alloc, &links, &order)?;

@@ -4,12 +4,10 @@ ghost use Rattle.solid_base.specs.References.{row_at};
 ghost use Rattle.solid_base.specs.Graph.{IsMatrix};
 ghost use Rattle.entity_graph.specs.FirstFaults.{HasNo, IsFirst, ArePresent, AreDirected, IsFault};
 ghost use Rattle.entity_graph.specs.Rules.{Breaks, HoldsOfNone, IsFirstIn};
-ghost use Rattle.entity_graph.specs.GraphFaults.{IsOfText};
 
 use crate::graph_faults::GraphFault;
 use crate::links::Links;
 use solid_base::{Reference, Row, Rows};
-use std::alloc::Global;
 
 /// A rule on single references: the entity that is named stands there, or it is of the kind that is wanted.
 #[derive(Clone, Copy, Debug)]
@@ -77,21 +75,19 @@ impl Rule {
     }
 }
 
-/// Reads the references of rows, each of which names an entity of the kind that is wanted. Dangling and
-/// WrongTarget where one doesn't, Memory when out of memory.
-pub fn read_links(alloc: Global, rows: Rows) -> Result<Links, GraphFault>
-    requires { length rows ≤ 100000 }
-    ensures links { IfOk result (λ links. links ≡ rows) }
-    ensures present { IfOk result (λ _. ArePresent rows) }
-    ensures directed { IfOk result (λ _. AreDirected rows) }
-    ensures first_fault { IfErr result (λ fault. IsOfText fault → IsFault rows fault) }
+/// Whether each reference names an entity of the kind that is wanted. Dangling where the first that names
+/// none does, else WrongTarget where the first of the wrong kind does. It takes no memory.
+pub fn check_references(links: &Links) -> Result<(), GraphFault>
+    requires { length links.now ≤ 100000 }
+    ensures present { IfOk result (λ _. ArePresent links.now) }
+    ensures directed { IfOk result (λ _. AreDirected links.now) }
+    ensures first_fault { IfErr result (λ fault. IsFault links.now fault) }
 {
-    let links = Links::read(alloc, rows)?;
-    if let Some((de, to)) = Rule::Present.first_of(&links) {
+    if let Some((de, to)) = Rule::Present.first_of(links) {
         return Err(GraphFault::Dangling(de, to));
     }
-    if let Some((de, to)) = Rule::Directed.first_of(&links) {
+    if let Some((de, to)) = Rule::Directed.first_of(links) {
         return Err(GraphFault::WrongTarget(de, to));
     }
-    Ok(links)
+    Ok(())
 }

@@ -1,7 +1,8 @@
-ghost use Rattle.std.specs.Prelude.{◌≡◌, ◌≤◌, ℕ, length, IfOk, IfErr};
+ghost use Rattle.std.specs.Prelude.{◌≡◌, ◌<◌, ◌≤◌, ◌+◌, ◌*◌, ℕ, suc, length, min, Ok, Err, IfOk, IfErr, MatchResult};
 ghost use Rattle.solid_base.specs.References.{HasNumber};
-ghost use Rattle.solid_base.specs.Graph.{depth_of, weight_of};
+ghost use Rattle.solid_base.specs.Graph.{depth_of, weight_of, most_weight};
 ghost use Rattle.entity_graph.specs.GraphFaults.{IsOfText};
+ghost use Rattle.entity_graph.specs.declared.graph_faults.GraphFault.TheVariants as fault;
 ghost use Rattle.entity_graph.specs.FirstFaults.{ArePresent, AreDirected, AreAcyclic, AreShallow, IsFault};
 ghost use Rattle.entity_graph.specs.Links.{places};
 ghost use Rattle.entity_graph.specs.Order.{IsWhole};
@@ -14,6 +15,19 @@ use crate::tables::{MOST_WEIGHT, Measure, first_above, number_at};
 use solid_base::MOST_LEVELS;
 use std::alloc::Global;
 
+/// The order that a search found, or Cycle at the first row that leads to one. It takes no memory.
+fn order_found(found: Result<Vec<u32>, u32>) -> Result<Vec<u32>, GraphFault>
+    requires { IfErr found (λ root. root < 100000) }
+    ensures { MatchResult found
+        (λ order. result ≡ Ok order)
+        (λ root. result ≡ Err (fault.Cycle (2 * root + 1))) }
+{
+    match found {
+        Ok(order) => Ok(order),
+        Err(root) => Err(GraphFault::Cycle(number_at(root))),
+    }
+}
+
 /// The places of rows in an order in which what a row names comes before it. Cycle where there is none,
 /// Memory when out of memory.
 pub fn find_places(alloc: Global, links: &Links) -> Result<Vec<u32>, GraphFault>
@@ -24,9 +38,23 @@ pub fn find_places(alloc: Global, links: &Links) -> Result<Vec<u32>, GraphFault>
     ensures acyclic { IfOk result (λ _. AreAcyclic links.now) }
     ensures first_fault { IfErr result (λ fault. IsOfText fault → IsFault links.now fault) }
 {
-    match find_order(alloc, links)? {
-        Ok(order) => Ok(order),
-        Err(root) => Err(GraphFault::Cycle(number_at(root))),
+    order_found(find_order(alloc, links)?)
+}
+
+/// Whether no row has more levels than it may have. TooDeep where one has. It takes no memory.
+fn check_depths(links: &Links, depths: &[u32]) -> Result<(), GraphFault>
+    requires few { length links.now ≤ 100000 }
+    requires present { ArePresent links.now }
+    requires directed { AreDirected links.now }
+    requires acyclic { AreAcyclic links.now }
+    requires size { length depths.now ≡ length links.now }
+    requires depths { (e : ℕ) → HasNumber links.now e → entry depths.now e ≡ depth_of links.now e }
+    ensures shallow { IfOk result (λ _. AreShallow links.now) }
+    ensures first_fault { IfErr result (λ fault. IsFault links.now fault) }
+{
+    match first_above(depths, MOST_LEVELS) {
+        None => Ok(()),
+        Some(place) => Err(GraphFault::TooDeep(number_at(place))),
     }
 }
 
@@ -45,9 +73,26 @@ pub fn find_depths(alloc: Global, links: &Links, order: &[u32]) -> Result<Vec<u3
     ensures first_fault { IfErr result (λ fault. IsOfText fault → IsFault links.now fault) }
 {
     let depths = Measure::Depth.table(alloc, links, order)?;
-    match first_above(&depths, MOST_LEVELS) {
-        None => Ok(depths),
-        Some(place) => Err(GraphFault::TooDeep(number_at(place))),
+    check_depths(links, &depths)?;
+    Ok(depths)
+}
+
+/// Whether no row weighs more than it may. TooHeavy where one does. It takes no memory.
+fn check_weights(links: &Links, weights: &[u32]) -> Result<(), GraphFault>
+    requires few { length links.now ≤ 100000 }
+    requires present { ArePresent links.now }
+    requires directed { AreDirected links.now }
+    requires acyclic { AreAcyclic links.now }
+    requires shallow { AreShallow links.now }
+    requires size { length weights.now ≡ length links.now }
+    requires weights { (e : ℕ) → HasNumber links.now e →
+        entry weights.now e ≡ min (suc most_weight) (weight_of links.now e) }
+    ensures light { IfOk result (λ _. AreLight links.now) }
+    ensures first_fault { IfErr result (λ fault. IsFault links.now fault) }
+{
+    match first_above(weights, MOST_WEIGHT) {
+        None => Ok(()),
+        Some(place) => Err(GraphFault::TooHeavy(number_at(place))),
     }
 }
 
@@ -67,8 +112,6 @@ pub fn find_weights(alloc: Global, links: &Links, order: &[u32]) -> Result<Vec<u
     ensures first_fault { IfErr result (λ fault. IsOfText fault → IsFault links.now fault) }
 {
     let weights = Measure::Weight.table(alloc, links, order)?;
-    match first_above(&weights, MOST_WEIGHT) {
-        None => Ok(weights),
-        Some(place) => Err(GraphFault::TooHeavy(number_at(place))),
-    }
+    check_weights(links, &weights)?;
+    Ok(weights)
 }

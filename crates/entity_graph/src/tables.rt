@@ -5,7 +5,7 @@ ghost use Rattle.entity_graph.specs.FirstFaults.{ArePresent};
 ghost use Rattle.entity_graph.specs.Links.{places};
 ghost use Rattle.entity_graph.specs.Order.{IsWhole};
 ghost use Rattle.entity_graph.specs.Tables.{entry};
-ghost use Rattle.entity_graph.specs.Measures.{least, lesser, step, IsReady, Right};
+ghost use Rattle.entity_graph.specs.Measures.{least, lesser, number_unread, step, IsReady, Right};
 
 use crate::links::Links;
 use solid_base::{Item, MOST_LEVELS, Placed, Reference, Row};
@@ -128,23 +128,33 @@ pub fn number_at(place: u32) -> u32
     2 * place + 1
 }
 
+/// The number of a row that isn't read, 0 where it is read.
+fn number_unread(row: &Row, number: u32) -> u32
+    ensures { result ≡ number_unread number row.now }
+{
+    match row {
+        Row::Opaque { .. } => number,
+        _ => 0,
+    }
+}
+
 impl Measure {
     /// The entry of the row at a place, from the entries of those that it names.
     fn entry_of(self, table: &[u32], links: &Links, place: u32) -> u32
         requires few { length links.now ≤ 100000 }
         requires inside { place < length links.now }
         ensures { result ≡
-            step self (entry table.now) (2 * place + 1) (row_at links.now (2 * place + 1)) }
+            step self links.now (entry table.now) (2 * place + 1) }
     {
         let at = place as usize;
         let row = &links.rows().get(at).row;
         match self {
             Measure::Depth => deeper(greatest_entry(table, links.row(at))),
             Measure::Weight => weight_of_row(table, row),
-            Measure::Opaque => match row {
-                Row::Opaque { .. } => number_at(place),
-                _ => least_entry(table, links.row(at)),
-            },
+            Measure::Opaque => lesser(
+                number_unread(row, number_at(place)),
+                least_entry(table, links.row(at)),
+            ),
         }
     }
 

@@ -1,21 +1,25 @@
-use Rattle.std.proofs.Common.{ℕ, ◌<◌, sym, subst}
-use Rattle.std.specs.Prelude.{MatchResult}
-use Rattle.solid_base.specs.Graph.{ReachesCycle}
-use Rattle.entity_graph.specs.FirstFaults.{IsFirstRow}
+use Rattle.std.proofs.Common.{ℕ, ◌<◌}
+use Rattle.entity_graph.specs.GraphFaults.{IsOfText}
 use Rattle.entity_graph.specs.Links.{places}
+use Rattle.entity_graph.specs.FirstFaults.{AreAcyclic, IsFault}
 use Rattle.entity_graph.specs.Order.{Rings}
 use Rattle.entity_graph.proofs.Cycles.{within, acyclic, first_cycle}
+use Rattle.entity_graph.proofs.Found.{found_order, found_root, match_mapped}
 use Rattle.entity_graph.proofs.stages.find_places.Goals as goal
 
 pub find_order-requires-clause-within : goal.find_order-requires-clause-within
 find_order-requires-clause-within c = within c.args.links.now c.requires.present
 
-pub returns-in-Ok-clause-acyclic : goal.returns-in-Ok-clause-acyclic
-returns-in-Ok-clause-acyclic c =
-    acyclic c.args.links.now c.requires.present
-    (subst (λ r. MatchResult r (λ _. (e : ℕ) → ¬ Rings (places c.args.links.now) e) (λ root. Rings (places c.args.links.now) root × ((e : ℕ) → e < root → ¬ Rings (places c.args.links.now) e))) c.in-Ok.is c.in_ok-order.ensures.rings)
+pub returns-clause-acyclic : goal.returns-clause-acyclic
+returns-clause-acyclic c =
+    let rows = c.args.links.now in
+    found_order (λ _. AreAcyclic rows) (λ _. Unit {0}) c.in_ok-find_order.field-0 c.order_found.result c.order_found.ensures
+    (match_mapped (λ _. (e : ℕ) → ¬ Rings (places rows) e) (λ root. Rings (places rows) root × ((e : ℕ) → e < root → ¬ Rings (places rows) e)) (λ _. AreAcyclic rows) (λ _. Unit {0}) c.in_ok-find_order.field-0 (λ _ none. acyclic rows c.requires.present none) (λ _ _. tt)
+    c.in_ok-find_order.ensures.rings)
 
-pub returns-in-Err-clause-first_fault : goal.returns-in-Err-clause-first_fault
-returns-in-Err-clause-first_fault c = λ _.
-    let first = subst (λ r. MatchResult r (λ _. (e : ℕ) → ¬ Rings (places c.args.links.now) e) (λ root. Rings (places c.args.links.now) root × ((e : ℕ) → e < root → ¬ Rings (places c.args.links.now) e))) c.in-Err.is c.in_ok-order.ensures.rings in
-    (c.requires.present, c.requires.directed, subst (IsFirstRow (ReachesCycle c.args.links.now)) (sym c.number_at.ensures) (first_cycle c.args.links.now c.requires.present c.in-Err.root first.0 first.1))
+pub returns-clause-first_fault : goal.returns-clause-first_fault
+returns-clause-first_fault c =
+    let rows = c.args.links.now in
+    found_root (λ _. (e : ℕ) → ¬ Rings (places rows) e) (λ root. Rings (places rows) root × ((e : ℕ) → e < root → ¬ Rings (places rows) e)) (λ f. IsOfText f → IsFault rows f) c.in_ok-find_order.field-0 c.order_found.result
+    c.order_found.ensures c.in_ok-find_order.ensures.rings
+    (λ root first. λ _. (c.requires.present, c.requires.directed, first_cycle rows c.requires.present root first.0 first.1))

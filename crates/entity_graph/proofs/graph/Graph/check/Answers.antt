@@ -1,24 +1,23 @@
 use Rattle.std.proofs.Common.{◌∙◌, sym, subst}
 use Rattle.solid_base.specs.Graph.{AreSound}
-use Rattle.entity_graph.specs.FirstFaults.{ArePresent, AreDirected}
 use Rattle.entity_graph.specs.Tables.{AreTables}
 use Rattle.entity_graph.proofs.graph.Graph.check.Goals as goal
 
 pub find_places-requires-clause-directed : goal.find_places-requires-clause-directed
-find_places-requires-clause-directed c = subst AreDirected (sym c.in_ok-links.ensures.links) c.in_ok-links.ensures.directed
+find_places-requires-clause-directed c = c.in_ok-check_references.ensures.directed
 
 pub find_depths-requires-clause-directed : goal.find_depths-requires-clause-directed
-find_depths-requires-clause-directed c = subst AreDirected (sym c.in_ok-links.ensures.links) c.in_ok-links.ensures.directed
+find_depths-requires-clause-directed c = c.in_ok-check_references.ensures.directed
 
 pub find_weights-requires-clause-directed : goal.find_weights-requires-clause-directed
-find_weights-requires-clause-directed c = subst AreDirected (sym c.in_ok-links.ensures.links) c.in_ok-links.ensures.directed
+find_weights-requires-clause-directed c = c.in_ok-check_references.ensures.directed
 
 pub invariant_of-result : goal.invariant_of-result
 invariant_of-result c =
     let tables : AreTables c.in_ok-links.links c.in_ok-depths.depths.items c.in_ok-weights.weights.items c.in_ok-opaques.opaques.items = record {
       sound = record {
-        present = subst ArePresent (sym c.in_ok-links.ensures.links) c.in_ok-links.ensures.present;
-        directed = subst AreDirected (sym c.in_ok-links.ensures.links) c.in_ok-links.ensures.directed;
+        present = c.in_ok-check_references.ensures.present;
+        directed = c.in_ok-check_references.ensures.directed;
         acyclic = c.in_ok-order.ensures.acyclic;
         shallow = c.in_ok-depths.ensures.shallow;
         light = c.in_ok-weights.ensures.light;
@@ -35,10 +34,10 @@ invariant_of-result c =
 pub returns-clause-sound : goal.returns-clause-sound
 returns-clause-sound c =
     let sound : AreSound c.in_ok-links.links = record {
-      present = subst ArePresent (sym c.in_ok-links.ensures.links) c.in_ok-links.ensures.present;
-      directed = subst AreDirected (sym c.in_ok-links.ensures.links) c.in_ok-links.ensures.directed;
+      present = c.in_ok-check_references.ensures.present;
+      directed = c.in_ok-check_references.ensures.directed;
       acyclic = c.in_ok-order.ensures.acyclic;
       shallow = c.in_ok-depths.ensures.shallow;
       light = c.in_ok-weights.ensures.light;
     } in
-    subst AreSound (c.in_ok-links.ensures.links ∙ c.in_ok-share.ensures) sound
+    subst AreSound (c.in_ok-links.ensures ∙ c.in_ok-share.ensures) sound

@@ -1,5 +1,4 @@
 use Rattle.std.proofs.Common.{ℕ, ◌+◌, ◌*◌, ◌∙◌, List, length-set, arith, get_or, ap}
-use Rattle.solid_base.specs.References.{row_at}
 use Rattle.entity_graph.specs.Tables.{entry}
 use Rattle.entity_graph.specs.Measures.{step}
 use Rattle.entity_graph.proofs.Numbers.{places_length}
@@ -27,5 +26,5 @@ loop-place-preserved c = record {
   size = length-set c.loop-place.table.items (get_or c.args.order.now c.loop-place.place-index 0) c.entry_of.result ∙ c.loop-place.invariant.size;
   right = right_more c.args.links.now c.args.self c.loop-place.table.items c.args.order.now c.requires.present c.requires.whole c.loop-place.place-index c.entry_of.result c.loop-place-test.true c.loop-place.invariant.size c.requires.ready
       c.loop-place.invariant.right
-      (c.entry_of.ensures ∙ ap (λ (t : List ℕ). step c.args.self (entry t) (2 * get_or c.args.order.now c.loop-place.place-index 0 + 1) (row_at c.args.links.now (2 * get_or c.args.order.now c.loop-place.place-index 0 + 1))) c.deref.ensures.value);
+      (c.entry_of.ensures ∙ ap (λ (t : List ℕ). step c.args.self c.args.links.now (entry t) (2 * get_or c.args.order.now c.loop-place.place-index 0 + 1)) c.deref.ensures.value);
 }
