@@ -27,3 +27,5 @@ pub mod PrimsBack
 pub mod ListsBack
 pub mod RecordsBack
 pub mod WrittenTokens
+pub mod CountedLines
+pub mod AcceptedRows

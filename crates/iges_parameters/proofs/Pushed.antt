@@ -1,7 +1,6 @@
 -- Tokens that are pushed one by one are those of the rest, from here on.
 use Rattle.std.proofs.Common.{◌≡◌, ℕ, zero, suc, ◌+◌, ◌<◌, ◌≤◌, List, [], ◌∷◌, ◌++◌, length, get_or, drop, map, ℤ, pos, Result, OnOk, refl, sym, ap, subst, ◌∙◌, add-one, arith}
 use Rattle.std.specs.List.{AllByRecursion}
-use Rattle.std.specs.declared.alloc.AllocError.{AllocError}
 use Rattle.std.proofs.Math.Seq.{drop-cons}
 use Rattle.std.proofs.Math.ListN.{drop_of_length-le}
 use Rattle.solid_base.specs.declared.entities.Token.{Token}
@@ -50,7 +49,7 @@ pushed_number with s new rules ns at r n total law lt room is so_far =
     pushed with s new (token_by (get_or rules at r).values (get_or ns at n)) (tokens_by (drop (at + 1) rules) (drop (at + 1) ns)) total law is (ap (with s) (sym (numbers_next rules ns at r n lt room)) ∙ so_far)
 
 -- a table and numbers by other names
-pub by_names : {S : Type 0} (with : S → List Token → S) (r : Result (Unit {0}) AllocError) (s new : S) (kind : ℕ) (rs rules : List Rule) (ns numbers : List ℤ) → rs ≡ rules → ns ≡ numbers
+pub by_names : {S E : Type 0} (with : S → List Token → S) (r : Result (Unit {0}) E) (s new : S) (kind : ℕ) (rs rules : List Rule) (ns numbers : List ℤ) → rs ≡ rules → ns ≡ numbers
     → OnOk r (new ≡ with s (whole (pos kind) ∷ tokens_by rs ns)) → OnOk r (new ≡ with s (whole (pos kind) ∷ tokens_by rules numbers))
 by_names with r s new kind rs rules ns numbers h i is =
     subst (λ (xs : List Rule). OnOk r (new ≡ with s (whole (pos kind) ∷ tokens_by xs numbers))) h (subst (λ (xs : List ℤ). OnOk r (new ≡ with s (whole (pos kind) ∷ tokens_by rs xs))) i is)

@@ -1,5 +1,5 @@
 -- How much room tokens take in lines of 64 columns: solidd's own.
-use Rattle.std.specs.Prelude.{◌≡◌, refl, ℕ, ◌+◌, List, [], ◌∷◌, ◌++◌, length}
+use Rattle.std.specs.Prelude.{◌≡◌, refl, ℕ, ◌+◌, ◌-◌, ◌^◌, List, [], ◌∷◌, ◌++◌, length, min}
 use Rattle.solid_base.specs.declared.entities.Token.{Token}
 use Rattle.solid_base.specs.declared.solids.Row.{Row}
 use Rattle.solid_base.specs.declared.solids.Row.TheVariants as row
@@ -14,16 +14,32 @@ unfoldable pub room_of : ℕ → List Token → ℕ
 room_of used [] = used
 room_of used (t ∷ ts) = room_of (used_after used (length (spelling_of_token t) + 1)) ts
 
--- no tokens take no room
-pub room_none : (used : ℕ) → room_of used [] ≡ used
-unfolding room_of
-room_none used = refl
+-- the most bytes of a record that are counted
+abbrev pub most_counted : ℕ
+most_counted = 2 ^ 64 - 1
 
--- tokens take the same room together as one after the other
-pub room_more : (used : ℕ) (ts us : List Token) → room_of (room_of used ts) us ≡ room_of used (ts ++ us)
-unfolding room_of
-room_more used [] us = refl
-room_more used (t ∷ ts) us = room_more (used_after used (length (spelling_of_token t) + 1)) ts us
+-- the most lines that are counted: as many as the most bytes fill
+abbrev pub most_counted_lines : ℕ
+most_counted_lines = 2 ^ 58
+
+-- as many, counted token by token up to the most that are counted
+unfoldable pub room_up_to_most : ℕ → List Token → ℕ
+room_up_to_most used [] = used
+room_up_to_most used (t ∷ ts) =
+    room_up_to_most (min (used_after used (length (spelling_of_token t) + 1)) most_counted) ts
+
+-- no tokens take no room
+pub counted_none : (used : ℕ) → room_up_to_most used [] ≡ used
+unfolding room_up_to_most
+counted_none used = refl
+
+-- tokens are counted together as one after the other
+pub counted_more : (used : ℕ) (ts us : List Token)
+    → room_up_to_most (room_up_to_most used ts) us ≡ room_up_to_most used (ts ++ us)
+unfolding room_up_to_most
+counted_more used [] us = refl
+counted_more used (t ∷ ts) us =
+    counted_more (min (used_after used (length (spelling_of_token t) + 1)) most_counted) ts us
 
 -- a row that is laid out by its tokens: each but one that stays as it was read
 abbrev pub IsLaid : Row → Type 0

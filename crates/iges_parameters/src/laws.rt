@@ -1,14 +1,19 @@
+ghost use Rattle.std.specs.List.{AllByRecursion, concat};
 ghost use Rattle.std.specs.Prelude.{◌≡◌, ℕ, List, map, Some, Ok, Err};
 ghost use Rattle.solid_base.specs.declared.entities.Token.{Token};
 ghost use Rattle.solid_base.specs.declared.solids.Row.{Row};
+ghost use Rattle.solid_base.specs.declared.entities.Model.{Model};
 ghost use Rattle.solid_base.specs.Ranges.{IsLawfulRow};
-ghost use Rattle.iges_fields.specs.Layout.{Reads};
+ghost use Rattle.solid_base.specs.Spelling.{before_blanks};
+ghost use Rattle.iges_fields.specs.Delimiters.{AreDelimiters};
+ghost use Rattle.iges_fields.specs.Layout.{Reads, AreLines};
+ghost use Rattle.iges_parameters.specs.Accepted.{IsAccepted, IsWritable};
 ghost use Rattle.iges_parameters.specs.RecordFields.{fields_of};
 ghost use Rattle.iges_parameters.specs.Rules.{Place};
 ghost use Rattle.iges_parameters.specs.Lists.{tree_at};
 ghost use Rattle.iges_parameters.specs.TreeFaults.{IsTreeFault};
 ghost use Rattle.iges_parameters.specs.Records.{record_of};
-ghost use Rattle.iges_parameters.specs.Writing.{tokens_of, IsOfRecord, type_of_row, form_of_row, matrix_of_row};
+ghost use Rattle.iges_parameters.specs.Writing.{tokens_of, kept_text, IsOfRecord, type_of_row, form_of_row, matrix_of_row};
 
 use crate::faults::RowFault;
 
@@ -30,4 +35,16 @@ pub fn tokens_are_fields()
 /// tree.
 pub fn trees_blame_no_item()
     ensures { (p : Place) (n : ℕ) → p.index ≡ 1 → tree_at p ≡ Err (RowFault.BadPostfix n) → IsTreeFault n p }
+{}
+
+/// The rows of an accepted model can be written with its delimiters: what `row_lines` asks holds of each.
+pub fn accepted_rows_can_be_written()
+    ensures { (model : Model) → IsAccepted model →
+        AreDelimiters model.comma model.semi × AllByRecursion IsWritable model.rows }
+{}
+
+/// A record that isn't read is kept without blanks after it, and so it is read back from its lines.
+pub fn kept_records_read_back()
+    ensures { (text : List ℕ) (lines : List (List ℕ)) → before_blanks text ≡ text →
+        AreLines 64 (kept_text text) lines → before_blanks (concat lines) ≡ text }
 {}

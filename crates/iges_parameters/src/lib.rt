@@ -15,4 +15,6 @@ mod writing;
 pub use faults::RowFault;
 pub use reading::records::{read_known_row, read_row};
 pub use tables::is_read;
-pub use writing::written_rows::{row_line_count, row_lines};
+pub use writing::RECORD_COLUMNS;
+pub use writing::line_counts::{MOST_COUNTED_LINES, line_count, row_line_count};
+pub use writing::written_rows::row_lines;

@@ -18,7 +18,6 @@ use crate::tables::{
 use crate::writing::number_tokens::push_numbers;
 use crate::writing::tokens::TokenSink;
 use solid_base::{Prim, Vec3};
-use std::alloc::{AllocError, Global};
 
 // The primitives of the tables: type, table, the function that makes the primitive of its numbers, the
 // numbers by their names in the order of their indexes, and the primitive with these names. One list
@@ -51,9 +50,9 @@ macro_rules! by_tables {
             _ => Err(RowFault::NotRead),
         }
     };
-    (@write ($prim:ident $tokens:ident $alloc:ident) $([$number:literal $table:ident $make:ident [$($x:ident),*] [$($row:tt)*]])*) => {
+    (@write ($prim:ident $tokens:ident) $([$number:literal $table:ident $make:ident [$($x:ident),*] [$($row:tt)*]])*) => {
         match $prim {
-            $($($row)* => push_numbers($alloc, $tokens, $number, &$table(), &[$($x),*]),)*
+            $($($row)* => push_numbers($tokens, $number, &$table(), &[$($x),*]),)*
         }
     };
 }
@@ -68,10 +67,10 @@ pub fn read_prim(kind: u32, parameters: &mut Parameters) -> Result<Prim, RowFaul
     by_tables!(read kind parameters)
 }
 
-/// Writes the type's number and the parameters of a primitive. AllocError when out of memory.
-pub fn push_prim<S: TokenSink>(alloc: Global, tokens: &mut S, prim: Prim) -> Result<(), AllocError>
+/// Writes the type's number and the parameters of a primitive.
+pub fn push_prim<S: TokenSink>(tokens: &mut S, prim: Prim) -> Result<(), S::Error>
     requires near { AllByRecursion (λ n. unsigned_abs n ≤ far) (numbers_of_prim prim) }
     ensures { OnOk result (tokens.new ≡ S.with tokens.old (whole (pos (type_of_prim prim)) ∷ tokens_by (rules_of_prim prim) (numbers_of_prim prim))) }
 {
-    by_tables!(write prim tokens alloc)
+    by_tables!(write prim tokens)
 }

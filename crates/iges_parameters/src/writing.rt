@@ -1,7 +1,9 @@
 //! A row's record as it is written: its tokens, laid out in lines or only measured.
-//! In reading order: `tokens` says what tokens go into, and `measured` only counts them;
-//! `number_tokens` and `row_tokens` give the tokens of a row, and `written_rows` its lines.
+//! In reading order: `tokens` says what tokens go into, and `measured` only counts their bytes;
+//! `number_tokens` and `row_tokens` give the tokens of a row, `written_rows` its lines, and
+//! `line_counts` how many they are.
 
+pub mod line_counts;
 pub mod measured;
 pub mod number_tokens;
 pub mod row_tokens;
@@ -9,3 +11,6 @@ pub mod tokens;
 pub mod written_rows;
 #[cfg(test)]
 mod written_tests;
+
+/// The columns of a parameter line that a record stands in: 1 to 64 (IGES 5.3, 2.2.4.5).
+pub const RECORD_COLUMNS: usize = 64;

@@ -10,20 +10,23 @@ use std::alloc::{AllocError, Global};
 
 /// What the tokens of a record go into, one after the other: it keeps them, or measures them.
 pub trait TokenSink {
+    /// Why a token can't be taken.
+    type Error;
+
     /// What it is after these tokens.
     ghost with: { Self → List token → Self };
 
-    /// Takes a whole number. AllocError when out of memory.
-    fn push_whole(&mut self, alloc: Global, number: i64) -> Result<(), AllocError>
+    /// Takes a whole number.
+    fn push_whole(&mut self, number: i64) -> Result<(), Self::Error>
         ensures { OnOk result (self.new ≡ with self.old (whole number ∷ [])) };
 
-    /// Takes a real number of steps. AllocError when out of memory.
-    fn push_real(&mut self, alloc: Global, steps: i128) -> Result<(), AllocError>
+    /// Takes a real number of steps.
+    fn push_real(&mut self, steps: i128) -> Result<(), Self::Error>
         requires { unsigned_abs steps ≤ far }
         ensures { OnOk result (self.new ≡ with self.old (real steps ∷ [])) };
 
-    /// Takes a token as it is. AllocError when out of memory.
-    fn push_token(&mut self, token: &Token) -> Result<(), AllocError>
+    /// Takes a token as it is.
+    fn push_token(&mut self, token: &Token) -> Result<(), Self::Error>
         ensures { OnOk result (self.new ≡ with self.old (token.now ∷ [])) };
 
     ghost with_none: { (sink : Self) → with sink [] ≡ sink };
@@ -31,25 +34,36 @@ pub trait TokenSink {
     ghost with_more: { (sink : Self) (tokens more : List token) → with (with sink tokens) more ≡ with sink (tokens ++ more) };
 }
 
-impl TokenSink for Tokens {
-    ghost use Rattle.std.proofs.Common.{append-nil, append_assoc};
+/// The tokens of a record, kept in memory.
+#[derive(Drop)]
+pub struct KeptTokens {
+    pub alloc: Global,
+    pub tokens: Tokens,
+}
 
-    ghost with = { λ tokens more. tokens ++ more };
+impl TokenSink for KeptTokens {
+    ghost use Rattle.std.proofs.Common.{ap, append-nil, append_assoc};
 
-    ghost with_none = { append-nil };
+    type Error = AllocError;
 
-    ghost with_more = { append_assoc };
+    ghost with = { λ kept more. record { alloc = kept.alloc; tokens = kept.tokens ++ more } };
 
-    fn push_whole(&mut self, alloc: Global, number: i64) -> Result<(), AllocError> {
-        self.push(Token::Whole(write_whole(alloc, number)?))
+    ghost with_none = { λ kept. ap (λ ts. record { alloc = kept.alloc; tokens = ts }) (append-nil kept.tokens) };
+
+    ghost with_more = { λ kept tokens more. ap (λ ts. record { alloc = kept.alloc; tokens = ts }) (append_assoc kept.tokens tokens more) };
+
+    fn push_whole(&mut self, number: i64) -> Result<(), AllocError> {
+        let text = write_whole(self.alloc, number)?;
+        self.tokens.push(Token::Whole(text))
     }
 
-    fn push_real(&mut self, alloc: Global, steps: i128) -> Result<(), AllocError> {
-        self.push(Token::Real(write_real(alloc, steps, 12)?))
+    fn push_real(&mut self, steps: i128) -> Result<(), AllocError> {
+        let text = write_real(self.alloc, steps, 12)?;
+        self.tokens.push(Token::Real(text))
     }
 
     fn push_token(&mut self, token: &Token) -> Result<(), AllocError> {
-        self.push(token.clone()?)
+        self.tokens.push(token.clone()?)
     }
 }
 
