@@ -1,7 +1,10 @@
 -- Lines that are joined one after the other, as a loop does.
-use Rattle.std.proofs.Common.{◌≡◌, ℕ, zero, suc, ◌+◌, ◌-◌, ◌*◌, ◌<◌, ◌≤◌, List, [], ◌∷◌, ◌++◌, length, take, drop, slice_get, Some, refl, arith, length-append, sym, ap, ◌∙◌, append_assoc}
+use Rattle.std.proofs.Common.{◌≡◌, ◌≢◌, ℕ, zero, suc, ◌+◌, ◌-◌, ◌*◌, ◌<◌, ◌≤◌, List, [], ◌∷◌, ◌++◌, length, take, drop, slice_get, Some, refl, arith, length-append, sym, ap, ◌∙◌, append_assoc}
 use Rattle.std.specs.List.{concat, AllByRecursion}
 use Rattle.std.proofs.lemmas.List.{append-nil}
+use Rattle.solid_base.specs.Texts.{IsOneLine}
+use Rattle.iges_file.specs.Entities.{AreColumns}
+use Rattle.iges_file.proofs.Parts.{all_taken, all_dropped, all_in_lines, all_weaker}
 
 -- the line at a place, and those after it
 line_at : (lines : List (List ℕ)) (at : ℕ) (line : List ℕ) → slice_get lines at ≡ Some line → drop at lines ≡ line ∷ drop (suc at) lines
@@ -25,23 +28,20 @@ join_done text lines at end total done so_far =
     let none : end - at ≡ 0 = omega (arith, done) in
     sym (append-nil text) ∙ ap (λ (n : ℕ). text ++ concat (take n (drop at lines))) (sym none) ∙ so_far
 
--- each line has so many columns
-abbrev pub AreWide : ℕ → List (List ℕ) → Type 0
-AreWide width lines = AllByRecursion (λ line. length line ≡ width) lines
-
-take_short : (width count : ℕ) (lines : List (List ℕ)) → AreWide width lines → length (concat (take count lines)) ≤ count * width
+take_short : (width count : ℕ) (lines : List (List ℕ)) → AllByRecursion (AreColumns width) lines → length (concat (take count lines)) ≤ count * width
 take_short width zero lines wide = omega arith
 take_short width (suc count) [] wide = omega arith
 take_short width (suc count) (line ∷ lines) wide =
     let more = take_short width count lines wide.1 in
     let size = length-append line (concat (take count lines)) in
-    omega (arith, more, size, wide.0)
-
-drop_wide : (width from : ℕ) (lines : List (List ℕ)) → AreWide width lines → AreWide width (drop from lines)
-drop_wide width zero lines wide = wide
-drop_wide width (suc from) [] wide = wide
-drop_wide width (suc from) (line ∷ lines) wide = drop_wide width from lines wide.1
+    omega (arith, more, size, wide.0.0)
 
 -- so many lines, joined, have at most so many columns each
-pub joined_short : (width from count : ℕ) (lines : List (List ℕ)) → AreWide width lines → length (concat (take count (drop from lines))) ≤ count * width
-joined_short width from count lines wide = take_short width count (drop from lines) (drop_wide width from lines wide)
+pub joined_short : (width from count : ℕ) (lines : List (List ℕ)) → AllByRecursion (AreColumns width) lines → length (concat (take count (drop from lines))) ≤ count * width
+joined_short width from count lines wide = take_short width count (drop from lines) (all_dropped (AreColumns width) from lines wide)
+
+-- lines that are joined are of one line
+pub joined_in_line : (width from count : ℕ) (lines : List (List ℕ)) → AllByRecursion (AreColumns width) lines → IsOneLine (concat (take count (drop from lines)))
+joined_in_line width from count lines wide =
+    let some = all_taken (AreColumns width) count (drop from lines) (all_dropped (AreColumns width) from lines wide) in
+    all_in_lines (λ b. b ≢ 10) (take count (drop from lines)) (all_weaker (AreColumns width) IsOneLine (λ line h. h.1) (take count (drop from lines)) some)

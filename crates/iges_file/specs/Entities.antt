@@ -2,6 +2,8 @@
 use Rattle.std.specs.Prelude.{◌≡◌, ◌≢◌, ℕ, ◌+◌, ◌-◌, ◌*◌, ◌≤◌, List, [], ◌∷◌, ◌++◌, cond, ◌==◌, length, take, drop, Result, Ok, Err}
 use Rattle.std.specs.List.{concat}
 use Rattle.solid_base.specs.Spelling.{before_blanks}
+use Rattle.solid_base.specs.Ranges.{most_whole}
+use Rattle.solid_base.specs.Texts.{IsOneLine, blank_attributes}
 use Rattle.solid_base.specs.declared.entities.Entity.{Entity}
 use Rattle.solid_base.specs.declared.entities.Token.{Token}
 use Rattle.solid_base.specs.declared.solids.Row.{Row}
@@ -36,11 +38,16 @@ abbrev pub with_record : Pair → Result (Row × List Token) RowFault → Result
 with_record pair (Ok read) = Ok (entity_of pair read)
 with_record pair (Err f) = Err f
 
+-- the entity of an entry whose record has this text, where its type and form are read; or the record's
+-- first fault
+abbrev pub known_entity : ℕ → ℕ → Pair → List ℕ → Result Entity RowFault
+known_entity comma semi pair text =
+    with_record pair (record_of pair.kind pair.form pair.matrix (fields_of comma semi text))
+
 -- the entity of an entry whose record has this text, or the record's first fault
 unfoldable pub entity_with : ℕ → ℕ → Pair → List ℕ → Result Entity RowFault
 entity_with comma semi pair text =
-    cond (is_read pair.kind pair.form) (with_record pair (record_of pair.kind pair.form pair.matrix (fields_of comma semi text)))
-    (Ok (kept_entity pair text))
+    cond (is_read pair.kind pair.form) (known_entity comma semi pair text) (Ok (kept_entity pair text))
 
 -- the entity of an entry in a file with these parameter lines
 unfoldable pub entity_in : ℕ → ℕ → List (List ℕ) → Pair → Result Entity RowFault
@@ -65,6 +72,19 @@ pub record IsBadRow (comma semi : ℕ) (params : List (List ℕ)) (pairs : List 
   pub number : entity ≡ 2 * length front + 1
 
 -- ---- conditions of the calls
+
+-- so many columns of a line of a file
+abbrev pub AreColumns : ℕ → List ℕ → Type 0
+AreColumns width columns = (length columns ≡ width) × IsOneLine columns
+
+-- an entry of a whole directory: the ranges of its numbers, and its fields that are kept unread
+pub record IsEntry (pair : Pair) : Type 0 where
+  pub kind : pair.kind ≤ 99999
+  pub form : pair.form ≤ 99999
+  pub matrix : pair.matrix ≤ most_whole
+  pub attributes : length pair.attrs ≡ 96
+  pub attributes_in_line : IsOneLine pair.attrs
+  pub blank_where_null : pair.kind ≡ 0 → pair.attrs ≡ blank_attributes
 
 -- the parameter lines of an entry, which isn't null, are lines of the file
 abbrev pub HasLines : ℕ → Pair → Type 0

@@ -1,14 +1,15 @@
-ghost use Rattle.std.specs.Prelude.{◌≡◌, ◌≢◌, ◌≤◌, ◌+◌, ◌-◌, ◌*◌, ◌^◌, length, take, drop, Ok, Err, IfOk, IfErr, OnOk};
-ghost use Rattle.std.specs.List.{AllByRecursion, concat, suffix_len};
-ghost use Rattle.solid_base.specs.Spelling.{is_blank, before_blanks};
+ghost use Rattle.std.specs.Prelude.{◌≡◌, ◌≢◌, ◌≤◌, ◌+◌, ◌-◌, ◌*◌, ◌^◌, length, take, drop, Ok, Err, IfOk, IfErr, true};
+ghost use Rattle.std.specs.List.{AllByRecursion, concat};
+ghost use Rattle.solid_base.specs.Texts.{IsOneLine};
 ghost use Rattle.iges_fields.specs.Delimiters.{AreDelimiters};
 ghost use Rattle.iges_parameters.specs.Faults.{IsOfText};
-ghost use Rattle.iges_parameters.specs.Accepted.{IsWritable};
-ghost use Rattle.iges_file.specs.Entities.{text_of, kept_entity, entity_with, entity_in, HasLines};
+ghost use Rattle.iges_parameters.specs.Tables.{is_read};
+ghost use Rattle.iges_parameters.specs.Accepted.{IsAcceptedEntity};
+ghost use Rattle.iges_file.specs.Entities.{text_of, kept_entity, known_entity, entity_with, entity_in, AreColumns, IsEntry, HasLines};
 
 use iges_directory::Pair;
-use iges_parameters::{RowFault, is_read, read_row};
-use solid_base::{BorrowedLines, Bytes, Entity, Row, RowText, Tokens};
+use iges_parameters::{RowFault, is_read, read_known_row};
+use solid_base::{BorrowedLines, Bytes, Entity, Row, RowText, Tokens, without_blanks_after};
 use std::alloc::{AllocError, Global};
 
 /// The columns of a parameter line.
@@ -42,42 +43,52 @@ fn record(alloc: Global, params: &BorrowedLines, pair: &Pair) -> Result<Vec<u8>,
     joined(alloc, params, pair.first - 1, pair.count)
 }
 
-fn blanks_after(text: &[u8]) -> usize
-    ensures within { result ≤ length text.now }
-    ensures value { result ≡ suffix_len is_blank text.now }
-{
-    text.iter()
-        .rev()
-        .take_while(|b| **b == b' ' || **b == b'\t')
-        .count()
-}
-
-/// A text without the blanks after it, in its own room.
-fn before_blanks(text: Vec<u8>) -> Bytes
-    ensures { result ≡ before_blanks text.items }
-{
-    let mut kept = text;
-    let count = kept.len() - blanks_after(&kept);
-    kept.truncate(count);
-    Bytes::from_vec(kept)
-}
-
 /// An entity that isn't read keeps its record without the blanks after it.
 fn kept_entity(alloc: Global, pair: Pair, text: Vec<u8>) -> Entity
-    ensures kept { result ≡ kept_entity pair text.items }
-    ensures writable { IsWritable result }
+    ensures { result ≡ kept_entity pair text.items }
 {
     let row = Row::Opaque {
         kind: pair.kind,
         form: pair.form,
         matrix: pair.matrix,
-        text: before_blanks(text),
+        text: without_blanks_after(text),
     };
     Entity {
         row,
         attrs: pair.attrs,
         tail: Tokens::new(alloc),
     }
+}
+
+/// The entity of an entry of a type and form that are read, whose record has this text.
+fn read_known_entity(
+    alloc: Global,
+    comma: u8,
+    semi: u8,
+    pair: Pair,
+    text: Vec<u8>,
+) -> Result<Entity, RowFault>
+    requires known { is_read pair.kind pair.form ≡ true }
+    requires entry { IsEntry pair }
+    requires in_line { IsOneLine text.items }
+    requires short { length text.items ≤ 2 ^ 25 }
+    requires delimiters { AreDelimiters comma semi }
+    ensures found { IfOk result (λ entity. known_entity comma semi pair text.items ≡ Ok entity) }
+    ensures first_fault { IfErr result (λ fault. IsOfText fault → known_entity comma semi pair text.items ≡ Err fault) }
+    ensures accepted { IfOk result IsAcceptedEntity }
+{
+    let source = RowText {
+        kind: pair.kind,
+        form: pair.form,
+        matrix: pair.matrix,
+        text: Bytes::from_vec(text),
+    };
+    let (row, tail) = read_known_row(alloc, &source, comma, semi)?;
+    Ok(Entity {
+        row,
+        attrs: pair.attrs,
+        tail,
+    })
 }
 
 /// The entity of an entry whose record has this text.
@@ -89,27 +100,20 @@ fn entity_with(
     pair: Pair,
     text: Vec<u8>,
 ) -> Result<Entity, RowFault>
-    requires text { length text.items ≤ 2 ^ 25 }
+    requires entry { IsEntry pair }
+    requires kind { 1 ≤ pair.kind }
+    requires in_line { IsOneLine text.items }
+    requires short { length text.items ≤ 2 ^ 25 }
     requires delimiters { AreDelimiters comma semi }
     ensures found { IfOk result (λ entity. entity_with comma semi pair text.items ≡ Ok entity) }
     ensures first_fault { IfErr result (λ fault. IsOfText fault → entity_with comma semi pair text.items ≡ Err fault) }
-    ensures writable { IfOk result IsWritable }
+    ensures accepted { IfOk result IsAcceptedEntity }
 {
-    if !is_read(pair.kind, pair.form) {
-        return Ok(kept_entity(alloc, pair, text));
+    if is_read(pair.kind, pair.form) {
+        read_known_entity(alloc, comma, semi, pair, text)
+    } else {
+        Ok(kept_entity(alloc, pair, text))
     }
-    let source = RowText {
-        kind: pair.kind,
-        form: pair.form,
-        matrix: pair.matrix,
-        text: Bytes::from_vec(text),
-    };
-    let (row, tail) = read_row(alloc, &source, comma, semi)?;
-    Ok(Entity {
-        row,
-        attrs: pair.attrs,
-        tail,
-    })
 }
 
 /// The entity of an entry in a file with these parameter lines.
@@ -121,12 +125,13 @@ pub fn read_entity(
     params: &BorrowedLines,
     pair: Pair,
 ) -> Result<Entity, RowFault>
+    requires entry { IsEntry pair }
     requires lines { HasLines (length params.now) pair }
-    requires wide { AllByRecursion (λ line. length line ≡ 64) params.now }
+    requires params { AllByRecursion (AreColumns 64) params.now }
     requires delimiters { AreDelimiters comma semi }
     ensures found { IfOk result (λ entity. entity_in comma semi params.now pair ≡ Ok entity) }
     ensures first_fault { IfErr result (λ fault. IsOfText fault → entity_in comma semi params.now pair ≡ Err fault) }
-    ensures writable { IfOk result IsWritable }
+    ensures accepted { IfOk result IsAcceptedEntity }
 {
     if pair.kind == 0 {
         return Ok(Entity {

@@ -10,7 +10,7 @@ mod model;
 mod rows;
 
 pub use faults::FileFault;
-pub use model::read_model;
+pub use model::{ReadFile, read_file, read_model};
 
 #[cfg(test)]
 mod model_tests;

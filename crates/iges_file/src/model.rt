@@ -1,7 +1,6 @@
 ghost use Rattle.std.specs.Prelude.{◌≡◌, ◌≤◌, ◌^◌, length, IfOk, IfErr};
-ghost use Rattle.std.specs.List.{AllByRecursion};
 ghost use Rattle.iges_file.specs.Faults.{IsOfText, IsOuter};
-ghost use Rattle.iges_parameters.specs.Accepted.{IsWritable};
+ghost use Rattle.iges_parameters.specs.Accepted.{IsAccepted};
 ghost use Rattle.iges_file.specs.Files.{Reads, Refused};
 
 use crate::faults::FileFault;
@@ -15,20 +14,32 @@ use std::alloc::Global;
 /// How many lines the records of a model may take.
 const MOST_LINES: u64 = 300_000;
 
-/// Reads a file in the fixed form, of at most 2^25 bytes: its model, and the place after its terminate
-/// line, after which nothing is read.
+/// What a file is read as.
+#[derive(Debug, Drop)]
+pub struct ReadFile {
+    /// The model.
+    pub model: Model,
+    /// The graph of the model's entities, whose references obey the rules.
+    pub graph: Graph,
+    /// The place after the terminate line, in bytes from the beginning.
+    pub end: usize,
+}
+
+/// Reads a file in the fixed form (IGES 5.3, 2.2), of at most 2^25 bytes: its model, the graph of the
+/// model's entities, and the place after its terminate line, after which nothing is read.
 ///
 /// The row at place i is that of the entity with the number 2i + 1. Entities of types and forms that
 /// aren't read keep their records.
 ///
-/// The first fault is told: that of the lines; of the global section; of the directory; BadRow, with the
-/// number of the first entity whose record has a fault and that fault; TooManyLines, where the records
+/// The first fault is reported: that of the lines; of the global section; of the directory; BadRow, with
+/// the number of the first entity whose record has a fault and that fault; TooManyLines, where the records
 /// would take more than 300,000 lines; that of the references between entities. Memory comes when
 /// out of memory.
-pub fn read_model(alloc: Global, bytes: &[u8]) -> Result<(Model, usize), FileFault>
+pub fn read_file(alloc: Global, bytes: &[u8]) -> Result<ReadFile, FileFault>
     requires { length bytes.now ≤ 2 ^ 25 }
-    ensures reads { IfOk result (λ read. Reads bytes.now read.0 read.1) }
-    ensures rows { IfOk result (λ read. AllByRecursion IsWritable read.0.rows) }
+    ensures reads { IfOk result (λ read. Reads bytes.now read.model read.end) }
+    ensures graph { IfOk result (λ read. read.graph ≡ read.model.rows) }
+    ensures accepted { IfOk result (λ read. IsAccepted read.model) }
     ensures outer { IfErr result IsOuter }
     ensures refused { IfErr result (λ fault. IsOfText fault → Refused bytes.now fault) }
 {
@@ -39,7 +50,7 @@ pub fn read_model(alloc: Global, bytes: &[u8]) -> Result<(Model, usize), FileFau
     if count_lines(alloc, global.comma, global.semi, &rows)? > MOST_LINES {
         return Err(FileFault::TooManyLines);
     }
-    Graph::check(alloc, &rows)?;
+    let graph = Graph::check(alloc, &rows)?;
     let model = Model {
         start: cards.start,
         comma: global.comma,
@@ -47,5 +58,21 @@ pub fn read_model(alloc: Global, bytes: &[u8]) -> Result<(Model, usize), FileFau
         global: global.tokens,
         rows,
     };
-    Ok((model, cards.end))
+    Ok(ReadFile {
+        model,
+        graph,
+        end: cards.end,
+    })
+}
+
+/// Reads a file as `read_file` does: its model, and the place after its terminate line.
+pub fn read_model(alloc: Global, bytes: &[u8]) -> Result<(Model, usize), FileFault>
+    requires { length bytes.now ≤ 2 ^ 25 }
+    ensures reads { IfOk result (λ read. Reads bytes.now read.0 read.1) }
+    ensures accepted { IfOk result (λ read. IsAccepted read.0) }
+    ensures outer { IfErr result IsOuter }
+    ensures refused { IfErr result (λ fault. IsOfText fault → Refused bytes.now fault) }
+{
+    let read = read_file(alloc, bytes)?;
+    Ok((read.model, read.end))
 }

@@ -1,8 +1,9 @@
-ghost use Rattle.std.specs.Prelude.{◌≡◌, ◌<◌, ◌≤◌, ◌+◌, ◌*◌, ◌^◌, ◌++◌, ◌∷◌, [], length, Ok, Err, IfOk, IfErr, OnOk};
+ghost use Rattle.std.specs.Prelude.{◌≡◌, ◌<◌, ◌≤◌, ◌+◌, ◌*◌, ◌^◌, ◌++◌, ◌∷◌, [], length, map, Ok, Err, IfOk, IfErr, OnOk};
 ghost use Rattle.std.specs.List.{AllByRecursion};
+ghost use Rattle.std.specs.Arc.{arc_value};
 ghost use Rattle.iges_fields.specs.Delimiters.{AreDelimiters};
-ghost use Rattle.iges_parameters.specs.Accepted.{IsWritable, lines_of};
-ghost use Rattle.iges_file.specs.Entities.{AreEntities, HasLines, IsRowsFault};
+ghost use Rattle.iges_parameters.specs.Accepted.{IsAcceptedEntity, IsWritable, lines_of};
+ghost use Rattle.iges_file.specs.Entities.{AreEntities, AreColumns, IsEntry, HasLines, IsRowsFault};
 ghost use Rattle.iges_file.specs.Faults.{of_row, IsOuter};
 
 use crate::entities::read_entity;
@@ -24,10 +25,12 @@ fn of_row(entity: u32, fault: RowFault) -> FileFault
     }
 }
 
-fn push_entity(alloc: Global, rows: &mut Rows, entity: Entity) -> Result<(), AllocError>
-    ensures { OnOk result (rows.new ≡ rows.old ++ entity ∷ []) }
+/// Shares an entity after the others.
+fn push_entity(alloc: Global, rows: &mut Vec<Arc<Entity>>, entity: Entity) -> Result<(), AllocError>
+    ensures { OnOk result (map arc_value rows.new.items ≡ map arc_value rows.old.items ++ entity ∷ []) }
 {
-    rows.push(Arc::new(alloc, entity)?)
+    rows.push(Arc::new(alloc, entity)?)?;
+    Ok(())
 }
 
 /// The entities of a file's entries, with these parameter lines. BadRow where a record has a fault, with
@@ -40,15 +43,16 @@ pub fn read_rows(
     pairs: Vec<Pair>,
 ) -> Result<Rows, FileFault>
     requires few { length pairs.items ≤ 100000 }
+    requires entries { AllByRecursion IsEntry pairs.items }
     requires lines { AllByRecursion (HasLines (length params.now)) pairs.items }
-    requires wide { AllByRecursion (λ line. length line ≡ 64) params.now }
+    requires params { AllByRecursion (AreColumns 64) params.now }
     requires delimiters { AreDelimiters comma semi }
     ensures found { IfOk result (AreEntities comma semi params.now pairs.items) }
     ensures first_fault { IfErr result (IsRowsFault comma semi params.now pairs.items) }
-    ensures writable { IfOk result (AllByRecursion IsWritable) }
+    ensures accepted { IfOk result (AllByRecursion IsAcceptedEntity) }
     ensures outer { IfErr result IsOuter }
 {
-    let mut rows = Rows::new(alloc);
+    let mut rows = Vec::with_capacity(alloc, pairs.len())?;
     let mut number = 1;
     for pair in pairs {
         match read_entity(alloc, comma, semi, params, pair) {
@@ -57,7 +61,7 @@ pub fn read_rows(
         }
         number += 2;
     }
-    Ok(rows)
+    Ok(Rows::from_vec(rows))
 }
 
 /// How many lines of 64 columns the records of entities take where they are written.

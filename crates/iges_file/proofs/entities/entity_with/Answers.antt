@@ -1,8 +1,9 @@
-use Rattle.iges_parameters.specs.RecordFields.{fields_of}
-use Rattle.iges_file.proofs.ReadRows.{read_tail}
+use Rattle.std.proofs.Common.{◌≡◌, false, rules}
+use Rattle.iges_parameters.specs.Tables.{is_read}
+use Rattle.iges_file.proofs.AcceptedFacts.{kept_accepted}
 use Rattle.iges_file.proofs.entities.entity_with.Goals as goal
 
-pub returns-clause-writable : goal.returns-clause-writable
-returns-clause-writable c =
-    let e = c.in_ok-row.ensures in
-    (e.lawful, e.spelt, read_tail c.args.pair.kind c.args.pair.form c.args.pair.matrix (fields_of c.args.comma c.args.semi c.args.text.items) (c.in_ok-row.row, c.in_ok-row.tail) (rw c.from_vec.ensures at e.found))
+pub returns-else-is_read-clause-accepted : goal.returns-else-is_read-clause-accepted
+returns-else-is_read-clause-accepted c =
+    let unread : is_read c.args.pair.kind c.args.pair.form ≡ false = search rules in
+    rw c.kept_entity.ensures (kept_accepted c.args.pair c.args.text.items c.requires.kind unread c.requires.in_line c.requires.short c.requires.entry)

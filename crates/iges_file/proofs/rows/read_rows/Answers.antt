@@ -1,6 +1,7 @@
-use Rattle.std.proofs.Common.{◌≡◌, List, ◌∷◌, [], ◌++◌, ◌∙◌, rules, sym, ap, arith, append_assoc, length-append}
+use Rattle.std.proofs.Common.{◌≡◌, List, ◌∷◌, [], ◌++◌, ◌∙◌, map, rules, sym, ap, arith, append_assoc, length-append}
 use Rattle.iges_directory.specs.declared.pairs.Pair.{Pair}
-use Rattle.iges_parameters.specs.Accepted.{IsWritable}
+use Rattle.std.specs.Arc.{arc_value}
+use Rattle.iges_parameters.specs.Accepted.{IsAcceptedEntity}
 use Rattle.iges_file.proofs.RowLoops.{entities_pushed, all_pushed}
 use Rattle.iges_file.proofs.rows.read_rows.Goals as goal
 
@@ -9,12 +10,14 @@ loop-pair-preserved c =
     let i = c.loop-pair.invariant in
     let step : c.loop-pair.pair-iterator.rest.items ≡ c.in-Some.pair ∷ c.next.new.self.rest.items = search rules in
     let lines = rw step at i.lines in
+    let entries = rw step at i.entries in
     record {
       can_next = tt;
       is_finite = tt;
       cut = i.cut ∙ ap (λ (ps : List Pair). c.loop-pair.yielded ++ ps) step ∙ sym (append_assoc c.loop-pair.yielded (c.in-Some.pair ∷ []) c.next.new.self.rest.items);
-      good = rw c.in_ok-push_entity-in-Ok.ensures (entities_pushed c.args.comma c.args.semi c.args.params.now c.loop-pair.yielded c.loop-pair.rows c.in-Some.pair c.in-Ok.entity i.good c.in-Ok.ensures.found);
+      good = rw c.in_ok-push_entity-in-Ok.ensures (entities_pushed c.args.comma c.args.semi c.args.params.now c.loop-pair.yielded (map arc_value c.loop-pair.rows.items) c.in-Some.pair c.in-Ok.entity i.good c.in-Ok.ensures.found);
       count = omega (arith, i.count, length-append c.loop-pair.yielded (c.in-Some.pair ∷ []));
+      entries = entries.1;
       lines = lines.1;
-      writable = rw c.in_ok-push_entity-in-Ok.ensures (all_pushed IsWritable c.loop-pair.rows c.in-Ok.entity i.writable c.in-Ok.ensures.writable);
+      accepted = rw c.in_ok-push_entity-in-Ok.ensures (all_pushed IsAcceptedEntity (map arc_value c.loop-pair.rows.items) c.in-Ok.entity i.accepted c.in-Ok.ensures.accepted);
     }

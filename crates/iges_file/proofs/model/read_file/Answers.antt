@@ -1,11 +1,15 @@
-use Rattle.std.proofs.Common.{◌≤◌, length, refl, arith}
+use Rattle.std.proofs.Common.{◌≡◌, ◌≤◌, length, refl, arith}
 use Rattle.std.proofs.lemmas.Result.{err_from_is_err_and}
+use Rattle.iges_file.specs.Entities.{AreColumns}
+use Rattle.iges_file.proofs.Parts.{all_weaker}
+use Rattle.solid_base.specs.declared.entities.Model.{Model}
+use Rattle.iges_file.proofs.AcceptedFacts.{model_accepted}
 use Rattle.iges_file.proofs.FormFacts.{form_within}
-use Rattle.iges_file.proofs.DirectoryFacts.{few_pairs, all_have_lines}
+use Rattle.iges_file.proofs.DirectoryFacts.{few_pairs, all_have_lines, all_are_entries}
 use Rattle.iges_file.proofs.FirstFaults.{global_refused, directory_refused, rows_refused, graph_refused}
 use Rattle.iges_file.proofs.RowLoops.{entities_counted}
 use Rattle.iges_parameters.specs.Accepted.{lines_of, most_lines}
-use Rattle.iges_file.proofs.model.read_model.Goals as goal
+use Rattle.iges_file.proofs.model.read_file.Goals as goal
 
 pub read_global-requires : goal.read_global-requires
 read_global-requires c =
@@ -24,7 +28,9 @@ overflow_cast-len c =
     rw c.len.ensures (omega (arith, within.few, c.requires))
 
 pub read_directory-requires : goal.read_directory-requires
-read_directory-requires c = record { eighty = (form_within c.args.bytes.now c.in_ok-cards.cards c.in_ok-cards.ensures.fixed_form).directory }
+read_directory-requires c =
+    let columns = (form_within c.args.bytes.now c.in_ok-cards.cards c.in_ok-cards.ensures.fixed_form).directory in
+    record { eighty = all_weaker (AreColumns 80) (λ line. length line ≡ 80) (λ line h. h.0) c.in_ok-cards.cards.directory columns }
 
 pub returns-in_err-pairs-clause-refused : goal.returns-in_err-pairs-clause-refused
 returns-in_err-pairs-clause-refused c =
@@ -41,8 +47,13 @@ pub read_rows-requires-clause-lines : goal.read_rows-requires-clause-lines
 read_rows-requires-clause-lines c =
     all_have_lines (length c.in_ok-cards.cards.params) c.in_ok-cards.cards.directory c.in_ok-pairs.pairs.items (rw c.len.ensures at c.in_ok-pairs.ensures.directory)
 
-pub read_rows-requires-clause-wide : goal.read_rows-requires-clause-wide
-read_rows-requires-clause-wide c = (form_within c.args.bytes.now c.in_ok-cards.cards c.in_ok-cards.ensures.fixed_form).params
+pub read_rows-requires-clause-entries : goal.read_rows-requires-clause-entries
+read_rows-requires-clause-entries c =
+    let form = form_within c.args.bytes.now c.in_ok-cards.cards c.in_ok-cards.ensures.fixed_form in
+    all_are_entries (length c.in_ok-cards.cards.params) c.in_ok-cards.cards.directory c.in_ok-pairs.pairs.items form.directory (rw c.len.ensures at c.in_ok-pairs.ensures.directory)
+
+pub read_rows-requires-clause-params : goal.read_rows-requires-clause-params
+read_rows-requires-clause-params c = (form_within c.args.bytes.now c.in_ok-cards.cards c.in_ok-cards.ensures.fixed_form).params
 
 pub returns-in_err-rows-clause-refused : goal.returns-in_err-rows-clause-refused
 returns-in_err-rows-clause-refused c =
@@ -73,13 +84,13 @@ check-requires c =
     let same = entities_counted c.in_ok-global.global.comma c.in_ok-global.global.semi c.in_ok-cards.cards.params c.in_ok-pairs.pairs.items c.in_ok-rows.rows c.in_ok-rows.ensures.found in
     rw same (few_pairs (length c.in_ok-cards.cards.params) c.in_ok-cards.cards.directory c.in_ok-pairs.pairs.items all)
 
-pub returns-in_err-check-clause-refused : goal.returns-in_err-check-clause-refused
-returns-in_err-check-clause-refused c =
-    let p = err_from_is_err_and c.from_residual-in_err-check.result c.from_residual-in_err-check.ensures.1 in
+pub returns-in_err-graph-clause-refused : goal.returns-in_err-graph-clause-refused
+returns-in_err-graph-clause-refused c =
+    let p = err_from_is_err_and c.from_residual-in_err-graph.result c.from_residual-in_err-graph.ensures.1 in
     let whole = rw c.as_slice.ensures at c.in_ok-global.ensures.found in
     let all = rw c.len.ensures at c.in_ok-pairs.ensures.directory in
     let few : lines_of c.in_ok-global.global.comma c.in_ok-global.global.semi c.in_ok-rows.rows ≤ most_lines = omega (arith, c.in_ok-count_lines.ensures, c.if-branch-gt-MOST_LINES.false) in
-    rw (p.1, p.2) (graph_refused c.args.bytes.now c.in_ok-cards.cards c.in_ok-global.global c.in_ok-pairs.pairs.items c.in_ok-rows.rows c.in_err-check.field-0.0 c.in_ok-cards.ensures.fixed_form whole all c.in_ok-rows.ensures.found few c.in_err-check.ensures.first_fault)
+    rw (p.1, p.2) (graph_refused c.args.bytes.now c.in_ok-cards.cards c.in_ok-global.global c.in_ok-pairs.pairs.items c.in_ok-rows.rows c.in_err-graph.field-0.0 c.in_ok-cards.ensures.fixed_form whole all c.in_ok-rows.ensures.found few c.in_err-graph.ensures.first_fault)
 
 pub returns-clause-reads : goal.returns-clause-reads
 returns-clause-reads c =
@@ -95,5 +106,10 @@ returns-clause-reads c =
       directory = all;
       entities = c.in_ok-rows.ensures.found;
       few = omega (arith, c.in_ok-count_lines.ensures, c.if-branch-gt-MOST_LINES.false);
-      sound = c.in_ok-check.ensures.sound;
+      sound = c.in_ok-graph.ensures.sound;
     }
+
+pub returns-clause-accepted : goal.returns-clause-accepted
+returns-clause-accepted c =
+    let model : Model = record { start = c.in_ok-cards.cards.start; comma = c.in_ok-global.global.comma; semi = c.in_ok-global.global.semi; global = c.in_ok-global.global.tokens; rows = c.in_ok-rows.rows } in
+    model_accepted c.args.bytes.now model c.in_ok-cards.cards.end c.requires (returns-clause-reads c) c.in_ok-rows.ensures.accepted
