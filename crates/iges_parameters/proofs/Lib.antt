@@ -29,3 +29,4 @@ pub mod RecordsBack
 pub mod WrittenTokens
 pub mod CountedLines
 pub mod AcceptedRows
+mod AcceptedFacts

@@ -9,7 +9,7 @@ returns-in-Opaque c = λ comma semi.
     let text = record_text comma semi c.args.entity.now.row c.args.entity.now.tail in
     let size : c.kept_size.result ≡ length text =
     c.kept_size.ensures ∙ ap (λ (text : List ℕ). length (kept_text text)) c.as_slice.ensures ∙ ap (λ (text : List ℕ). length text) (sym (text_kept comma semi _ _ _ _ _ c.args.entity.now.tail c.in-Opaque.is)) in
-    omega (arith, size, c.kept_size.auto)
+    omega (arith, size)
 
 pub returns-in_default : goal.returns-in_default
 returns-in_default c = λ comma semi.
