@@ -5,8 +5,8 @@ use solid_base::{Bytes, word, word_and_number};
 use std::alloc::{AllocError, Global};
 use thiserror::Error;
 
-/// Why a record isn't read. An index is that of a parameter, counted from 1 after the type's number,
-/// which has index 0.
+/// Why a record isn't read. An index is that of a parameter, counted from 1 after the type's
+/// number, which has index 0.
 #[derive(Clone, Copy, Debug, PartialEq, Eq, Error)]
 pub enum RowFault {
     /// Out of memory.
@@ -21,18 +21,19 @@ pub enum RowFault {
     /// A required parameter is empty, or the record ends before it.
     #[error("parameter {0} is missing")]
     Missing(u32),
-    /// Another kind of field stands where a whole number, or a number, is wanted. At index 0 the number
-    /// isn't the entity's type.
+    /// Another kind of field stands where a whole number, or a number, is wanted. At index 0 the
+    /// number isn't the entity's type.
     #[error("parameter {0} is of the wrong kind")]
     WrongKind(u32),
-    /// A magnitude is too large; or the number of an item or matrix of an assembly, or of an instance's
-    /// solid, is below 0.
+    /// A magnitude is too large; or the number of an item or matrix of an assembly, or of an
+    /// instance's solid, is below 0.
     #[error("parameter {0} is too far")]
     TooFar(u32),
     /// A length, a radius or a number of items isn't in its range.
     #[error("parameter {0} has a size out of its range")]
     BadSize(u32),
-    /// The axis that begins at this index isn't of unit length, or isn't at a right angle to the first.
+    /// The axis that begins at this index isn't of unit length, or isn't at a right angle to the
+    /// first.
     #[error("the axis at parameter {0} is out of its bounds")]
     BadAxis(u32),
     /// The columns of a matrix aren't of unit length and at right angles.
@@ -72,8 +73,8 @@ impl RowFault {
         }
     }
 
-    /// The fault as it is printed: its name and its index. AllocError when out of memory. Want of
-    /// memory itself is never printed.
+    /// The fault as it is printed: its name and its index. AllocError when out of memory. Out
+    /// of memory itself is never printed.
     pub fn write_fault(&self, alloc: Global) -> Result<Bytes, AllocError>
         requires { IsOfText self.now }
         ensures { IfOk result (λ words. words ≡ fault_words self.now) }

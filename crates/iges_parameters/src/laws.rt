@@ -13,31 +13,36 @@ ghost use Rattle.iges_parameters.specs.Rules.{Place};
 ghost use Rattle.iges_parameters.specs.Lists.{tree_at};
 ghost use Rattle.iges_parameters.specs.TreeFaults.{IsTreeFault};
 ghost use Rattle.iges_parameters.specs.Records.{record_of};
-ghost use Rattle.iges_parameters.specs.Writing.{tokens_of, kept_text, IsOfRecord, type_of_row, form_of_row, matrix_of_row};
+ghost use Rattle.iges_parameters.specs.Writing.{tokens_of, kept_text, IsOfRecord, type_of_row};
+ghost use Rattle.iges_parameters.specs.Writing.{form_of_row, matrix_of_row};
 
 use crate::faults::RowFault;
 
-/// A row in its ranges, and whatever fields stand after it, are read back from the tokens that they are
-/// written with.
+/// A row in its ranges, and whatever fields stand after it, are read back from the tokens that they
+/// are written with.
 pub fn rows_read_back()
     ensures { (row : Row) (tail : List Token) → IsOfRecord row → IsLawfulRow row →
-        record_of (type_of_row row) (form_of_row row) (matrix_of_row row) (map Some (tokens_of row tail)) ≡ Ok (row, tail) }
+        record_of (type_of_row row) (form_of_row row) (matrix_of_row row) (map Some
+        (tokens_of row tail)) ≡ Ok (row, tail) }
 {}
 
 /// A text that reads as tokens has them as its fields.
 pub fn tokens_are_fields()
-    ensures { (comma semi : ℕ) (text : List ℕ) (tokens : List Token) → Reads comma semi text tokens →
+    ensures { (comma semi : ℕ) (text : List ℕ) (tokens : List Token) →
+        Reads comma semi text tokens →
         fields_of comma semi text ≡ map Some tokens }
 {}
 
-/// Where BadPostfix names a parameter of a Boolean tree, the items before it are whole trees, and it is
-/// no item or an operation that lacks operands; or it is parameter 1, and the items leave other than one
-/// tree.
+/// Where BadPostfix names a parameter of a Boolean tree, the items before it are whole trees, and
+/// it is no item or an operation that lacks operands; or it is parameter 1, and the items leave
+/// other than one tree.
 pub fn trees_blame_no_item()
-    ensures { (p : Place) (n : ℕ) → p.index ≡ 1 → tree_at p ≡ Err (RowFault.BadPostfix n) → IsTreeFault n p }
+    ensures { (p : Place) (n : ℕ) → p.index ≡ 1 → tree_at p ≡ Err (RowFault.BadPostfix n) →
+        IsTreeFault n p }
 {}
 
-/// The rows of an accepted model can be written with its delimiters: what `row_lines` asks holds of each.
+/// The rows of an accepted model can be written with its delimiters: what `row_lines` asks holds of
+/// each.
 pub fn accepted_rows_can_be_written()
     ensures { (model : Model) → IsAccepted model →
         AreDelimiters model.comma model.semi × AllByRecursion IsWritable model.rows }

@@ -1,8 +1,8 @@
 //! The records of entities, read by tables into rows and written again (IGES 5.3, chapter 4).
-//! Contracts see a record's text as the list of its fields, and say of it which row and which fields
-//! after the row it is, or its first fault; of a row they see the tokens that it is written with.
-//! In reading order: `faults` and `tables`, `prims`, which both ways share, then `reading` up to
-//! `records`, and `writing` up to `written_rows`; `laws` says that what is written is read back.
+//! Contracts see a record's text as the list of its fields, and say of it which row and which
+//! fields after the row it is, or its first fault; of a row they see the tokens that it is written
+//! with. In reading order: `faults` and `tables`, `prims`, which both ways share, then `reading` up
+//! to `records`, and `writing` up to `written_rows`; `laws` says that what is written is read back.
 #![tactic(auto)]
 
 mod faults;

@@ -1,7 +1,7 @@
-//! A record's fields, read by tables into a row and the fields after it.
-//! In reading order: `parameters` gives the fields one by one; `whole` and `numbers` make numbers of
-//! them by rules; `makers` and `axes`, `counts`, `trees` and `assemblies` make the parts of rows;
-//! `rows`, `tails` and `records` make the whole.
+//! A record's fields, read by tables into a row and the fields after it. In reading order:
+//! `parameters` gives the fields one by one; `whole` and `numbers` make numbers of them by rules;
+//! `makers` and `axes`, `counts`, `trees` and `assemblies` make the parts of rows; `rows`, `tails`
+//! and `records` make the whole.
 
 pub mod assemblies;
 pub mod axes;

@@ -1,10 +1,12 @@
 ghost use Rattle.std.specs.Prelude.{◌≡◌};
-ghost use Rattle.iges_parameters.specs.Tables.{block_rules, wedge_rules, cylinder_rules, cone_rules, sphere_rules, torus_rules, ellipsoid_rules, is_read};
+ghost use Rattle.iges_parameters.specs.Tables.{block_rules, wedge_rules, cylinder_rules};
+ghost use Rattle.iges_parameters.specs.Tables.{cone_rules, sphere_rules, torus_rules};
+ghost use Rattle.iges_parameters.specs.Tables.{ellipsoid_rules, is_read};
 
 use solid_base::U;
 
-/// Which numbers a parameter may have. Reals are in steps; other parameters are named by their indexes,
-/// counted from 1.
+/// Which numbers a parameter may have. Reals are in steps; other parameters are named by their
+/// indexes, counted from 1.
 #[derive(Clone, Copy, Debug, PartialEq, Eq)]
 pub enum Values {
     /// Any real number.
@@ -21,8 +23,8 @@ pub enum Values {
     Number,
 }
 
-/// The rule of a parameter: what it is where its field is empty, if it may be, and which numbers it may
-/// have.
+/// The rule of a parameter: what it is where its field is empty, if it may be, and which numbers it
+/// may have.
 #[derive(Clone, Copy, Debug, PartialEq, Eq)]
 pub struct Rule {
     pub default: Option<i128>,
@@ -222,9 +224,9 @@ pub fn ellipsoid_table() -> ParamTable<12>
     ELLIPSOID
 }
 
-/// Whether entities of this type and form are read: form 0 of the primitives (types 150, 152, 154, 156,
-/// 158, 160, 168), of the Boolean tree (180), the solid assembly (184) and the solid instance (430), and
-/// forms 0 and 1 of the transformation matrix (124).
+/// Whether entities of this type and form are read: form 0 of the primitives (types 150, 152, 154,
+/// 156, 158, 160, 168), of the Boolean tree (180), the solid assembly (184) and the solid instance
+/// (430), and forms 0 and 1 of the transformation matrix (124).
 #[tactic(auto, unfolding(crate::specs::Tables::is_read))]
 pub fn is_read(kind: u32, form: u32) -> bool
     ensures { result ≡ is_read kind form }

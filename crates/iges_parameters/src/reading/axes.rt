@@ -2,7 +2,8 @@ ghost use Rattle.std.specs.Prelude.{◌≡◌, ◌<◌, ◌↔◌, ◌^◌, ◌*
 ghost use Rattle.solid_base.specs.Range.{IsWithin, IsPointWithin};
 ghost use Rattle.solid_base.specs.Ranges.{dot};
 ghost use Rattle.solid_base.specs.Outcomes.{Gives};
-ghost use Rattle.iges_parameters.specs.Rows.{is_small, is_unit, is_right_angle, are_orthonormal, with_axis, with_axes, checked_prim, checked_affine};
+ghost use Rattle.iges_parameters.specs.Rows.{is_small, is_unit, is_right_angle, are_orthonormal};
+ghost use Rattle.iges_parameters.specs.Rows.{with_axis, with_axes, checked_prim, checked_affine};
 
 use crate::faults::RowFault;
 use solid_base::{Affine, Prim, U, Vec3};
@@ -87,8 +88,8 @@ fn with_axes(prim: Prim, index: u32, u: &Vec3, w: &Vec3) -> Result<Prim, RowFaul
     }
 }
 
-/// A primitive whose axes are in their bounds: of unit length, and at a right angle where there are two.
-/// BadAxis with the index of the first that isn't.
+/// A primitive whose axes are in their bounds: of unit length, and at a right angle where there are
+/// two. BadAxis with the index of the first that isn't.
 #[tactic(auto, unfolding(crate::specs::Rows::checked_prim))]
 pub fn checked_prim(prim: Prim) -> Result<Prim, RowFault>
     ensures { Gives (λ p. p) result (checked_prim prim) }

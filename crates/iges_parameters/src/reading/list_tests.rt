@@ -48,8 +48,8 @@ fn tree_words(alloc: Global, text: &[u8]) -> Result<Bytes, Fail> {
     Ok(words)
 }
 
-/// The items of an assembly, each with its matrix, and after a bar the index of the next parameter; or
-/// the words of the fault.
+/// The items of an assembly, each with its matrix, and after a bar the index of the next parameter;
+/// or the words of the fault.
 fn assembly_words(alloc: Global, text: &[u8]) -> Result<Bytes, Fail> {
     let mut parameters = parameters_of(text)?;
     let items = match assembly(alloc, &mut parameters) {

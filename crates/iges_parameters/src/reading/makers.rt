@@ -1,5 +1,6 @@
 ghost use Rattle.std.specs.Prelude.{◌≡◌, ◌<◌, ◌≤◌, ◌+◌, length};
-ghost use Rattle.iges_parameters.specs.Rows.{point_at, block_of, wedge_of, cylinder_of, cone_of, sphere_of, torus_of, ellipsoid_of, affine_of};
+ghost use Rattle.iges_parameters.specs.Rows.{point_at, block_of, wedge_of, cylinder_of, cone_of};
+ghost use Rattle.iges_parameters.specs.Rows.{sphere_of, torus_of, ellipsoid_of, affine_of};
 
 use solid_base::{Affine, Prim, Vec3};
 
@@ -99,7 +100,8 @@ pub fn ellipsoid(n: &[i128; 12]) -> Prim
     }
 }
 
-/// A matrix of its rows, of which each has the rotation in columns 1 to 3 and the shift in column 4.
+/// A matrix of its rows, of which each has the rotation in columns 1 to 3 and the shift in column
+/// 4.
 #[tactic(auto, unfolding(crate::specs::Rows::affine_of))]
 pub fn affine(n: &[i128; 12]) -> Affine
     ensures { result ≡ affine_of n.now }

@@ -1,8 +1,11 @@
-ghost use Rattle.std.specs.Prelude.{◌≡◌, ◌<◌, ◌+◌, ◌-◌, ◌≤◌, ◌^◌, length, IfOk, IfErr, [], unsigned_abs};
+ghost use Rattle.std.specs.Prelude.{◌≡◌, ◌<◌, ◌+◌, ◌-◌, ◌≤◌, ◌^◌, length, IfOk, IfErr, []};
+ghost use Rattle.std.specs.Prelude.{unsigned_abs};
 ghost use Rattle.iges_fields.specs.Layout.{IsSpelt};
 ghost use Rattle.solid_base.specs.Outcomes.{Gives};
 ghost use Rattle.iges_parameters.specs.RecordFields.{token_of};
-ghost use Rattle.iges_parameters.specs.Rules.{near_steps, real_of, has_size, sized, not_below_0, number_by, value_of, given, default_of, parameter, parameter_at, numbers_from, Moves};
+ghost use Rattle.iges_parameters.specs.Rules.{near_steps, real_of, has_size, sized, not_below_0};
+ghost use Rattle.iges_parameters.specs.Rules.{number_by, value_of, given, default_of, parameter};
+ghost use Rattle.iges_parameters.specs.Rules.{parameter_at, numbers_from, Moves};
 
 use crate::faults::RowFault;
 use crate::reading::parameters::Parameters;
@@ -70,7 +73,8 @@ fn not_below_0(index: u32, n: i128) -> Result<i128, RowFault>
 #[tactic(auto, unfolding(crate::specs::Rules::number_by))]
 fn number_by(values: &Values, index: u32, field: &Field) -> Result<i128, RowFault>
     requires spelt { IsSpelt (token_of field.now.kind field.now.text.now) }
-    ensures { Gives (λ n. n) result (number_by values.now index (token_of field.now.kind field.now.text.now)) }
+    ensures { Gives (λ n. n) result
+        (number_by values.now index (token_of field.now.kind field.now.text.now)) }
 {
     match values {
         Values::Real | Values::Size | Values::SizeBelow(_) | Values::Below(_) => {
@@ -87,7 +91,8 @@ fn number_by(values: &Values, index: u32, field: &Field) -> Result<i128, RowFaul
 /// The number of a field that isn't empty, of the size that is wanted.
 fn given(rule: &Rule, index: u32, before: &[i128], field: &Field) -> Result<i128, RowFault>
     requires spelt { IsSpelt (token_of field.now.kind field.now.text.now) }
-    ensures { Gives (λ n. n) result (given rule.now index before.now (token_of field.now.kind field.now.text.now)) }
+    ensures { Gives (λ n. n) result
+        (given rule.now index before.now (token_of field.now.kind field.now.text.now)) }
 {
     let n = number_by(&rule.values, index, field)?;
     if has_size(&rule.values, n, before) {
@@ -101,7 +106,8 @@ fn given(rule: &Rule, index: u32, before: &[i128], field: &Field) -> Result<i128
 #[tactic(auto, unfolding(crate::specs::Rules::value_of))]
 fn value_of(rule: &Rule, index: u32, before: &[i128], field: &Field) -> Result<i128, RowFault>
     requires spelt { IsSpelt (token_of field.now.kind field.now.text.now) }
-    ensures { Gives (λ n. n) result (value_of rule.now index before.now (token_of field.now.kind field.now.text.now)) }
+    ensures { Gives (λ n. n) result
+        (value_of rule.now index before.now (token_of field.now.kind field.now.text.now)) }
 {
     match field.kind {
         FieldKind::Empty => rule.default.ok_or(RowFault::Missing(index)),
@@ -117,7 +123,8 @@ pub fn parameter(
     before: &[i128],
 ) -> Result<i128, RowFault>
     requires { parameters.now.index < 2 ^ 32 - 1 }
-    ensures value { Gives (λ n. (n, parameters.new)) result (parameter_at rule.now before.now parameters.old) }
+    ensures value { Gives (λ n. (n, parameters.new)) result
+        (parameter_at rule.now before.now parameters.old) }
     ensures moves { IfOk result (λ n. Moves 1 parameters.old parameters.new) }
 {
     let index = parameters.index();
@@ -132,7 +139,8 @@ pub fn numbers_of<const N: usize>(
 ) -> Result<[i128; N], RowFault>
     requires few { N < 100 }
     requires near { parameters.now.index < 2 ^ 31 }
-    ensures value { Gives (λ ns. (ns, parameters.new)) result (numbers_from table.now.rules [] parameters.old) }
+    ensures value { Gives (λ ns. (ns, parameters.new)) result
+        (numbers_from table.now.rules [] parameters.old) }
     ensures moves { IfOk result (λ ns. Moves N parameters.old parameters.new) }
 {
     let mut numbers = [0; N];

@@ -30,7 +30,8 @@ impl<'a> Model for Parameters<'a> {
 fn more_fields<'a>(fields: &mut Fields<'a>, index: u32) -> Result<Option<Field<'a>>, RowFault>
     ensures more { IsMore (record { index = index; fields = fields_left fields.old })
         (record { index = index + 1; fields = fields_left fields.new }) result }
-    ensures spelt { IfOk result (λ found. IfSome found (λ field. IsSpelt (token_of field.kind field.text.now))) }
+    ensures spelt { IfOk result (λ found. IfSome found (λ field.
+        IsSpelt (token_of field.kind field.text.now))) }
 {
     match fields.next() {
         Ok(Some(field)) => Ok(Some(field)),
@@ -41,9 +42,16 @@ fn more_fields<'a>(fields: &mut Fields<'a>, index: u32) -> Result<Option<Field<'
 
 /// The next field, whose index this is; after the last field of the record each is empty.
 fn next_field<'a>(fields: &mut Fields<'a>, index: u32) -> Result<Field<'a>, RowFault>
-    ensures value { Gives (λ field. (token_of field.kind field.text.now, record { index = index + 1; fields = fields_left fields.new }))
+    ensures value { Gives (λ field. (
+      token_of field.kind field.text.now,
+      record {
+        index = index + 1;
+        fields = fields_left fields.new;
+      },
+    ))
         result (token_at (record { index = index; fields = fields_left fields.old })) }
-    ensures fewer { IfOk result (λ field. length (fields_left fields.new) ≤ length (fields_left fields.old)) }
+    ensures fewer { IfOk result (λ field.
+        length (fields_left fields.new) ≤ length (fields_left fields.old)) }
     ensures spelt { IfOk result (λ field. IsSpelt (token_of field.kind field.text.now)) }
 {
     match fields.next() {
@@ -76,10 +84,12 @@ impl<'a> Parameters<'a> {
         self.index
     }
 
-    /// The next field; after the last field of the record each is empty. Token where no field stands.
+    /// The next field; after the last field of the record each is empty. Token where no field
+    /// stands.
     pub fn token(&mut self) -> Result<Field<'a>, RowFault>
         requires { self.now.index < 2 ^ 32 - 1 }
-        ensures value { Gives (λ field. (token_of field.kind field.text.now, self.new)) result (token_at self.old) }
+        ensures value { Gives (λ field. (token_of field.kind field.text.now, self.new)) result
+            (token_at self.old) }
         ensures moves { IfOk result (λ field. Moves 1 self.old self.new) }
         ensures spelt { IfOk result (λ field. IsSpelt (token_of field.kind field.text.now)) }
     {
@@ -92,7 +102,8 @@ impl<'a> Parameters<'a> {
     pub fn more(&mut self) -> Result<Option<Field<'a>>, RowFault>
         requires { self.now.index < 2 ^ 32 - 1 }
         ensures more { IsMore self.old self.new result }
-        ensures spelt { IfOk result (λ found. IfSome found (λ field. IsSpelt (token_of field.kind field.text.now))) }
+        ensures spelt { IfOk result (λ found. IfSome found (λ field.
+            IsSpelt (token_of field.kind field.text.now))) }
     {
         let found = more_fields(&mut self.fields, self.index)?;
         self.index += 1;

@@ -1,4 +1,5 @@
-ghost use Rattle.std.specs.Prelude.{◌≡◌, ◌<◌, ◌≤◌, ◌+◌, ◌*◌, ◌^◌, length, Ok, Err, IfOk, IfErr, true};
+ghost use Rattle.std.specs.Prelude.{◌≡◌, ◌<◌, ◌≤◌, ◌+◌, ◌*◌, ◌^◌, length, Ok, Err, IfOk, IfErr};
+ghost use Rattle.std.specs.Prelude.{true};
 ghost use Rattle.solid_base.specs.Ranges.{IsLawfulRow};
 ghost use Rattle.iges_fields.specs.Delimiters.{AreDelimiters};
 ghost use Rattle.solid_base.specs.Texts.{IsOneLine};
@@ -6,7 +7,8 @@ ghost use Rattle.iges_fields.specs.Layout.{AreSpelt, AreOneLine};
 ghost use Rattle.iges_parameters.specs.Faults.{GivesOrMemory, IsOfText};
 ghost use Rattle.iges_parameters.specs.Rules.{MovesUpTo};
 ghost use Rattle.iges_parameters.specs.Tables.{is_read};
-ghost use Rattle.iges_parameters.specs.Records.{tree_row, assembly_row, row_at, record_of, record_in};
+ghost use Rattle.iges_parameters.specs.Records.{tree_row, assembly_row, row_at, record_of};
+ghost use Rattle.iges_parameters.specs.Records.{record_in};
 
 use crate::faults::RowFault;
 use crate::reading::assemblies::assembly;
@@ -22,7 +24,8 @@ use std::alloc::Global;
 #[tactic(auto, unfolding(crate::specs::Records::tree_row))]
 fn tree_row(alloc: Global, matrix: u32, parameters: &mut Parameters) -> Result<Row, RowFault>
     requires near { parameters.now.index < 2 ^ 30 }
-    ensures value { GivesOrMemory (λ row. (row, parameters.new)) result (tree_row matrix parameters.old) }
+    ensures value { GivesOrMemory (λ row. (row, parameters.new)) result
+        (tree_row matrix parameters.old) }
     ensures moves { IfOk result (λ row. MovesUpTo (2 * 10 ^ 7) parameters.old parameters.new) }
     ensures lawful { IfOk result IsLawfulRow }
 {
@@ -34,7 +37,8 @@ fn tree_row(alloc: Global, matrix: u32, parameters: &mut Parameters) -> Result<R
 #[tactic(auto, unfolding(crate::specs::Records::assembly_row))]
 fn assembly_row(alloc: Global, matrix: u32, parameters: &mut Parameters) -> Result<Row, RowFault>
     requires near { parameters.now.index < 2 ^ 30 }
-    ensures value { GivesOrMemory (λ row. (row, parameters.new)) result (assembly_row matrix parameters.old) }
+    ensures value { GivesOrMemory (λ row. (row, parameters.new)) result
+        (assembly_row matrix parameters.old) }
     ensures moves { IfOk result (λ row. MovesUpTo (2 * 10 ^ 7) parameters.old parameters.new) }
     ensures lawful { IfOk result IsLawfulRow }
 {
@@ -53,7 +57,8 @@ fn row_of(
 ) -> Result<Row, RowFault>
     requires form { kind ≡ 124 → form ≤ 1 }
     requires near { parameters.now.index < 2 ^ 30 }
-    ensures value { GivesOrMemory (λ row. (row, parameters.new)) result (row_at kind form matrix parameters.old) }
+    ensures value { GivesOrMemory (λ row. (row, parameters.new)) result
+        (row_at kind form matrix parameters.old) }
     ensures moves { IfOk result (λ row. MovesUpTo (2 * 10 ^ 7) parameters.old parameters.new) }
     ensures lawful { IfOk result IsLawfulRow }
 {
@@ -66,11 +71,13 @@ fn row_of(
     }
 }
 
-/// Reads the record of an entity: its row, and the fields after the row's parameters as they are spelt.
+/// Reads the record of an entity: its row, and the fields after the row's parameters as they are
+/// spelt.
 ///
-/// Field 0 is the type's number, and the parameters have the indexes from 1 on. A whole number may stand
-/// where a real is wanted. Where the record ends early, the parameters that don't stand there are empty;
-/// an empty parameter has its default or, without one, is missing. The record has at most 2^25 bytes.
+/// Field 0 is the type's number, and the parameters have the indexes from 1 on. A whole number may
+/// stand where a real is wanted. Where the record ends early, the parameters that don't stand there
+/// are empty; an empty parameter has its default or, without one, is missing. The record has at
+/// most 2^25 bytes.
 ///
 /// NotRead comes first, where `is_read` is false, and then what `read_known_row` answers. The
 /// delimiters are lawful and differ.
@@ -84,7 +91,8 @@ pub fn read_row(
     requires text { length source.now.text ≤ 2 ^ 25 }
     requires delimiters { AreDelimiters comma semi }
     ensures found { IfOk result (λ read. record_in comma semi source.now ≡ Ok (read.0, read.1)) }
-    ensures first_fault { IfErr result (λ fault. IsOfText fault → record_in comma semi source.now ≡ Err fault) }
+    ensures first_fault { IfErr result (λ fault. IsOfText fault → record_in comma semi source.now
+        ≡ Err fault) }
     ensures lawful { IfOk result (λ read. IsLawfulRow read.0) }
     ensures spelt { IfOk result (λ read. AreSpelt read.1) }
     ensures one_line { IfOk result (λ read. IsOneLine source.now.text → AreOneLine read.1) }
@@ -96,16 +104,18 @@ pub fn read_row(
     }
 }
 
-/// Reads the record of an entity of a type and form for which `is_read` is true, as `read_row` does.
+/// Reads the record of an entity of a type and form for which `is_read` is true, as `read_row`
+/// does.
 ///
 /// The parameters are checked by their indexes, and at one index: Token, where no field stands;
-/// Missing; WrongKind, where a whole number is wanted and another kind stands, or a real and a text,
-/// and where field 0 isn't the type; TooFar, a magnitude above 100,000 units, or above 9,999,999 in a
-/// whole number, or below 0 the number of an item or matrix of an assembly or of an instance's solid;
-/// BadSize, a size that isn't above 0, an LTX or R2 out of its range, or a number of items below 1;
-/// BadPostfix, an item that is 0 or above 3, or an operation before which fewer than two trees stand.
-/// After the last item comes BadPostfix 1, where other than one tree is left; after all parameters
-/// BadAxis and BadMatrix; last, Token of a field after the parameters. Memory comes when out of memory.
+/// Missing; WrongKind, where a whole number is wanted and another kind stands, or a real and a
+/// text, and where field 0 isn't the type; TooFar, a magnitude above 100,000 units, or above
+/// 9,999,999 in a whole number, or below 0 the number of an item or matrix of an assembly or of an
+/// instance's solid; BadSize, a size that isn't above 0, an LTX or R2 out of its range, or a number
+/// of items below 1; BadPostfix, an item that is 0 or above 3, or an operation before which fewer
+/// than two trees stand. After the last item comes BadPostfix 1, where other than one tree is left;
+/// after all parameters BadAxis and BadMatrix; last, Token of a field after the parameters. Memory
+/// comes when out of memory.
 #[tactic(auto, unfolding(crate::specs::Records::record_of))]
 pub fn read_known_row(
     alloc: Global,
@@ -117,7 +127,8 @@ pub fn read_known_row(
     requires text { length source.now.text ≤ 2 ^ 25 }
     requires delimiters { AreDelimiters comma semi }
     ensures found { IfOk result (λ read. record_in comma semi source.now ≡ Ok (read.0, read.1)) }
-    ensures first_fault { IfErr result (λ fault. IsOfText fault → record_in comma semi source.now ≡ Err fault) }
+    ensures first_fault { IfErr result (λ fault. IsOfText fault → record_in comma semi source.now
+        ≡ Err fault) }
     ensures lawful { IfOk result (λ read. IsLawfulRow read.0) }
     ensures spelt { IfOk result (λ read. AreSpelt read.1) }
     ensures one_line { IfOk result (λ read. IsOneLine source.now.text → AreOneLine read.1) }

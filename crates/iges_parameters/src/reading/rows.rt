@@ -4,7 +4,8 @@ ghost use Rattle.iges_fields.specs.Layout.{IsSpelt};
 ghost use Rattle.solid_base.specs.Outcomes.{Gives};
 ghost use Rattle.iges_parameters.specs.RecordFields.{token_of};
 ghost use Rattle.iges_parameters.specs.Rules.{MovesUpTo, parameter};
-ghost use Rattle.iges_parameters.specs.Records.{type_of, type_at, prim_row, matrix_row, instance_row};
+ghost use Rattle.iges_parameters.specs.Records.{type_of, type_at, prim_row, matrix_row};
+ghost use Rattle.iges_parameters.specs.Records.{instance_row};
 
 use crate::faults::RowFault;
 use crate::prims::read_prim;
@@ -20,7 +21,8 @@ use solid_base::Row;
 /// The row of a primitive.
 pub fn prim_row(kind: u32, matrix: u32, parameters: &mut Parameters) -> Result<Row, RowFault>
     requires near { parameters.now.index < 2 ^ 31 }
-    ensures value { Gives (λ row. (row, parameters.new)) result (prim_row kind matrix parameters.old) }
+    ensures value { Gives (λ row. (row, parameters.new)) result
+        (prim_row kind matrix parameters.old) }
     ensures moves { IfOk result (λ row. MovesUpTo 13 parameters.old parameters.new) }
     ensures lawful { IfOk result IsLawfulRow }
 {
@@ -33,7 +35,8 @@ pub fn prim_row(kind: u32, matrix: u32, parameters: &mut Parameters) -> Result<R
 pub fn matrix_row(form: u32, matrix: u32, parameters: &mut Parameters) -> Result<Row, RowFault>
     requires form { form ≤ 1 }
     requires near { parameters.now.index < 2 ^ 31 }
-    ensures value { Gives (λ row. (row, parameters.new)) result (matrix_row form matrix parameters.old) }
+    ensures value { Gives (λ row. (row, parameters.new)) result
+        (matrix_row form matrix parameters.old) }
     ensures moves { IfOk result (λ row. MovesUpTo 12 parameters.old parameters.new) }
     ensures lawful { IfOk result IsLawfulRow }
 {
@@ -58,7 +61,8 @@ fn entity_number(numbers: &[i128; 1]) -> u32
 #[tactic(auto, unfolding(crate::specs::Records::instance_row, crate::specs::Tables::instance_rules))]
 pub fn instance_row(matrix: u32, parameters: &mut Parameters) -> Result<Row, RowFault>
     requires near { parameters.now.index < 2 ^ 31 }
-    ensures value { Gives (λ row. (row, parameters.new)) result (instance_row matrix parameters.old) }
+    ensures value { Gives (λ row. (row, parameters.new)) result
+        (instance_row matrix parameters.old) }
     ensures moves { IfOk result (λ row. MovesUpTo 1 parameters.old parameters.new) }
     ensures lawful { IfOk result IsLawfulRow }
 {
@@ -69,8 +73,8 @@ pub fn instance_row(matrix: u32, parameters: &mut Parameters) -> Result<Row, Row
     })
 }
 
-/// Compares field 0 with the type's number. Missing where it is empty, WrongKind where it is another
-/// number or none.
+/// Compares field 0 with the type's number. Missing where it is empty, WrongKind where it is
+/// another number or none.
 #[tactic(auto, unfolding(crate::specs::Records::type_of))]
 fn type_of(kind: u32, field: &Field) -> Result<u32, RowFault>
     requires spelt { IsSpelt (token_of field.now.kind field.now.text.now) }

@@ -24,7 +24,8 @@ fn token_of(alloc: Global, field: &Field) -> Result<Token, AllocError>
 }
 
 fn push_field(alloc: Global, tokens: &mut Tokens, field: &Field) -> Result<(), AllocError>
-    ensures { OnOk result (tokens.new ≡ tokens.old ++ token_of field.now.kind field.now.text.now ∷ []) }
+    ensures { OnOk result (tokens.new
+        ≡ tokens.old ++ token_of field.now.kind field.now.text.now ∷ []) }
 {
     tokens.push(token_of(alloc, field)?)
 }
@@ -32,7 +33,8 @@ fn push_field(alloc: Global, tokens: &mut Tokens, field: &Field) -> Result<(), A
 /// The fields after the defined parameters, up to the end of the record.
 pub fn read_tail(alloc: Global, parameters: &mut Parameters) -> Result<Tokens, RowFault>
     requires few { parameters.now.index + length parameters.now.fields < 2 ^ 32 - 1 }
-    ensures value { GivesOrMemory (λ tail. tail) result (tail_from [] parameters.old.index parameters.old.fields) }
+    ensures value { GivesOrMemory (λ tail. tail) result
+        (tail_from [] parameters.old.index parameters.old.fields) }
     ensures spelt { IfOk result AreSpelt }
 {
     let mut tokens = Tokens::new(alloc);

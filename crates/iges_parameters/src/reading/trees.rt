@@ -1,4 +1,5 @@
-ghost use Rattle.std.specs.Prelude.{◌≡◌, ◌<◌, ◌≤◌, ◌+◌, ◌-◌, ◌^◌, ◌++◌, ◌∷◌, [], List, length, IfOk, unsigned_abs};
+ghost use Rattle.std.specs.Prelude.{◌≡◌, ◌<◌, ◌≤◌, ◌+◌, ◌-◌, ◌^◌, ◌++◌, ◌∷◌, [], List, length};
+ghost use Rattle.std.specs.Prelude.{IfOk, unsigned_abs};
 ghost use Rattle.std.specs.List.{AllByRecursion};
 ghost use Rattle.solid_base.specs.declared.solids.Item.{Item};
 ghost use Rattle.solid_base.specs.Trees.{IsPostOrder};
@@ -18,14 +19,17 @@ use std::alloc::Global;
 /// The parameter that says how many items there are.
 const NUMBER_OF_ITEMS: u32 = 1;
 
-/// The item with this number after items that are so many trees, and how many trees there are with it.
-/// BadPostfix where a number from 0 on is no operation, or fewer than two trees stand before it.
+/// The item with this number after items that are so many trees, and how many trees there are with
+/// it. BadPostfix where a number from 0 on is no operation, or fewer than two trees stand before
+/// it.
 #[tactic(auto, unfolding(crate::specs::Lists::item_with))]
 fn item_with(index: u32, trees: u32, number: i128) -> Result<(Item, u32), RowFault>
     requires trees { trees < 2 ^ 32 - 1 }
     requires within { unsigned_abs number ≤ 9999999 }
-    ensures value { (before : List Item) → trees ≡ length (trees_in before) → Gives (λ x. x.0) result (item_with index before number) }
-    ensures trees { IfOk result (λ x. (before : List Item) → trees ≡ length (trees_in before) → x.1 ≡ length (trees_in (before ++ x.0 ∷ []))) }
+    ensures value { (before : List Item) → trees ≡ length (trees_in before) →
+        Gives (λ x. x.0) result (item_with index before number) }
+    ensures trees { IfOk result (λ x. (before : List Item) → trees ≡ length (trees_in before) →
+        x.1 ≡ length (trees_in (before ++ x.0 ∷ []))) }
     ensures within { IfOk result (λ x. x.1 ≤ trees + 1) }
 {
     if number < 0 {
@@ -48,8 +52,10 @@ fn item_with(index: u32, trees: u32, number: i128) -> Result<(Item, u32), RowFau
 fn next_item(parameters: &mut Parameters, trees: u32) -> Result<(Item, u32), RowFault>
     requires index { parameters.now.index < 2 ^ 32 - 1 }
     requires trees { trees < 2 ^ 32 - 1 }
-    ensures value { (before : List Item) → trees ≡ length (trees_in before) → Gives (λ x. (x.0, parameters.new)) result (item_at before parameters.old) }
-    ensures trees { IfOk result (λ x. (before : List Item) → trees ≡ length (trees_in before) → x.1 ≡ length (trees_in (before ++ x.0 ∷ []))) }
+    ensures value { (before : List Item) → trees ≡ length (trees_in before) →
+        Gives (λ x. (x.0, parameters.new)) result (item_at before parameters.old) }
+    ensures trees { IfOk result (λ x. (before : List Item) → trees ≡ length (trees_in before) →
+        x.1 ≡ length (trees_in (before ++ x.0 ∷ []))) }
     ensures within { IfOk result (λ x. x.1 ≤ trees + 1) }
     ensures moves { IfOk result (λ x. Moves 1 parameters.old parameters.new) }
 {
@@ -63,7 +69,8 @@ fn next_item(parameters: &mut Parameters, trees: u32) -> Result<(Item, u32), Row
 fn items(alloc: Global, parameters: &mut Parameters, count: u32) -> Result<Items, RowFault>
     requires count { count ≤ 9999999 }
     requires near { parameters.now.index < 2 ^ 31 }
-    ensures value { GivesOrMemory (λ items. (items, parameters.new)) result (items_from count [] parameters.old) }
+    ensures value { GivesOrMemory (λ items. (items, parameters.new)) result
+        (items_from count [] parameters.old) }
     ensures moves { IfOk result (λ items. Moves (length items) parameters.old parameters.new) }
     ensures long { IfOk result (λ items. length items ≡ count) }
     ensures lawful { IfOk result (λ items. AllByRecursion IsLawfulItem items) }
@@ -82,17 +89,19 @@ fn items(alloc: Global, parameters: &mut Parameters, count: u32) -> Result<Items
     Ok(items)
 }
 
-/// The items of a Boolean tree in post-order (IGES 5.3, type 180): their number, and each item, which is
-/// the number of an entity below 0 for an operand, and 1, 2 or 3 for the union, the intersection and the
-/// difference of the two trees before it.
+/// The items of a Boolean tree in post-order (IGES 5.3, type 180): their number, and each item,
+/// which is the number of an entity below 0 for an operand, and 1, 2 or 3 for the union, the
+/// intersection and the difference of the two trees before it.
 ///
-/// BadSize comes where the number of items isn't above 0, BadPostfix with its index at an item that is
-/// another number, and at an operation with fewer than two trees before it. The faults of an item come
-/// in the order of its index, and then BadPostfix 1 where the items leave other than one tree.
+/// BadSize comes where the number of items isn't above 0, BadPostfix with its index at an item that
+/// is another number, and at an operation with fewer than two trees before it. The faults of an
+/// item come in the order of its index, and then BadPostfix 1 where the items leave other than one
+/// tree.
 #[tactic(auto, unfolding(crate::specs::Lists::tree_at))]
 pub fn tree(alloc: Global, parameters: &mut Parameters) -> Result<Items, RowFault>
     requires near { parameters.now.index < 2 ^ 30 }
-    ensures value { GivesOrMemory (λ items. (items, parameters.new)) result (tree_at parameters.old) }
+    ensures value { GivesOrMemory (λ items. (items, parameters.new)) result
+        (tree_at parameters.old) }
     ensures moves { IfOk result (λ items. Moves (length items + 1) parameters.old parameters.new) }
     ensures long { IfOk result (λ items. length items ≤ 9999999) }
     ensures lawful { IfOk result (λ items. AllByRecursion IsLawfulItem items) }

@@ -37,12 +37,13 @@ fn integer(index: u32, text: &[u8]) -> Result<i128, RowFault>
     Ok(signed(text, size))
 }
 
-/// The whole number that a field gives. Missing where the field is empty, WrongKind where it is a real
-/// number or a text, TooFar where the number is above 9,999,999 in magnitude.
+/// The whole number that a field gives. Missing where the field is empty, WrongKind where it is a
+/// real number or a text, TooFar where the number is above 9,999,999 in magnitude.
 #[tactic(auto, unfolding(crate::specs::Rules::whole_of))]
 pub fn whole_of(index: u32, field: &Field) -> Result<i128, RowFault>
     requires spelt { IsSpelt (token_of field.now.kind field.now.text.now) }
-    ensures value { Gives (λ n. n) result (whole_of index (token_of field.now.kind field.now.text.now)) }
+    ensures value { Gives (λ n. n) result
+        (whole_of index (token_of field.now.kind field.now.text.now)) }
     ensures within { IfOk result (λ n. unsigned_abs n ≤ 9999999) }
 {
     match field.kind {
