@@ -53,7 +53,7 @@ impl GraphFault {
         }
     }
 
-    /// The fault as it is printed: its name and its numbers. AllocError when out of memory. Want of
+    /// The fault as it is printed: its name and its numbers. AllocError when out of memory. Out of
     /// memory itself is never printed.
     pub fn write_fault(&self, alloc: Global) -> Result<Bytes, AllocError>
         requires { IsOfText self.now }

@@ -48,7 +48,7 @@ impl Links {
     pub fn read(alloc: Global, rows: Rows) -> Result<Links, AllocError>
         ensures { IfOk result (λ links. links ≡ rows) }
     {
-        let mut items = List::new(alloc);
+        let mut items = List::from_vec(Vec::with_capacity(alloc, rows.len())?);
         let mut ends = Vec::with_capacity(alloc, rows.len())?;
         for place in 0..rows.len() {
             items = with_references(items, &rows.get(place).row)?;

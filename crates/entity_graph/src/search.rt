@@ -88,7 +88,7 @@ pub fn find_order(alloc: Global, links: &Links) -> Result<Result<Vec<u32>, u32>,
         ((e : ℕ) → e < root → ¬ Rings (places links.now) e))) }
 {
     let mut marks = Vec::from_elem(alloc, Mark::Unseen, links.len())?;
-    let mut order = Vec::new(alloc);
+    let mut order = Vec::with_capacity(alloc, links.len())?;
     for root in 0..links.len() {
         if let Mark::Unseen = marks[root] {
             if !visit(alloc, links, root as u32, &mut marks, &mut order)? {

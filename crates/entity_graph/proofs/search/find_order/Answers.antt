@@ -16,7 +16,7 @@ pub loop-root-init : goal.loop-root-init
 loop-root-init c =
     let n = places_length c.args.links.now in
     record {
-      idle = idle_start (places c.args.links.now) c.in_ok-marks.marks.items c.new-order.result.items c.len.result (c.in_ok-marks.ensures.items_if_clones_equal (λ y e. e)) (c.len.ensures ∙ sym n) c.new-order.ensures.items;
+      idle = idle_start (places c.args.links.now) c.in_ok-marks.marks.items c.in_ok-order.order.items c.len.result (c.in_ok-marks.ensures.items_if_clones_equal (λ y e. e)) (c.len.ensures ∙ sym n) c.in_ok-order.ensures.items;
       seen = λ e h. absurd (omega arith);
     }
 
