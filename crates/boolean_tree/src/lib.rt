@@ -1,6 +1,7 @@
 //! Boolean trees of solids (IGES 5.3, type 180): post-order lists of operands and operations.
 //! Contracts see the tree that a list spells, or the record's parameter at which it stops to be
-//! the list of one tree, and the verdict on that tree by recursion on it.
+//! the list of one tree, and the verdict on that tree by recursion on it. The modules are read in
+//! this order: `items`, `operations`, `folds`, `laws`.
 #![tactic(auto)]
 
 mod folds;

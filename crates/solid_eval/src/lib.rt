@@ -1,6 +1,7 @@
 //! The verdict on an entity over a box, by a walk along its references to the primitives.
-//! Contracts see the plain tree that an entity unfolds into, and the verdict by recursion on it.
-//! That the verdict tells the class of each place in the box, and of each box within, are `laws`.
+//! Contracts see the plain tree that an entity unfolds into, and by recursion on it the verdict and
+//! how many primitives are evaluated and counted. That the verdict tells the class of each place in
+//! the box, and of each box within, are `laws`.
 #![tactic(auto)]
 
 pub mod laws;
