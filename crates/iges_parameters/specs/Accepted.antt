@@ -25,7 +25,8 @@ most_entities = 100000
 abbrev pub most_lines : ℕ
 most_lines = 300000
 
--- IGES 5.3, 2.2.4: sequence numbers of lines have seven digits, so a section has at most so many lines
+-- IGES 5.3, 2.2.4: sequence numbers of lines have seven digits, so a section has at most so many
+-- lines
 abbrev pub most_section_lines : ℕ
 most_section_lines = 9999999
 

@@ -9,7 +9,8 @@ use Rattle.iges_fields.specs.Layout.{spelling_of_token, gap}
 abbrev pub used_after : ℕ → ℕ → ℕ
 used_after used size = used + gap 64 used size + size
 
--- how many bytes are laid after these tokens, each with a delimiter, where so many are laid before them
+-- how many bytes are laid after these tokens, each with a delimiter, where so many are laid before
+-- them
 unfoldable pub room_of : ℕ → List Token → ℕ
 room_of used [] = used
 room_of used (t ∷ ts) = room_of (used_after used (length (spelling_of_token t) + 1)) ts

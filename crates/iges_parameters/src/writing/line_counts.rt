@@ -5,7 +5,7 @@ ghost use Rattle.iges_fields.specs.Delimiters.{AreDelimiters};
 ghost use Rattle.iges_fields.specs.Layout.{AreSpelt, AreLines, laid};
 ghost use Rattle.iges_parameters.specs.Accepted.{IsWritable, lines_of};
 ghost use Rattle.iges_parameters.specs.Writing.{tokens_of, kept_text, record_text, lines_for};
-ghost use Rattle.iges_parameters.specs.WrittenRows.{IsLaid, IsTailOf, most_counted, most_counted_lines};
+ghost use Rattle.iges_parameters.specs.WrittenRows.{IsTailOf, most_counted, most_counted_lines};
 
 use crate::writing::RECORD_COLUMNS;
 use crate::writing::measured::Measure;
@@ -41,10 +41,13 @@ pub fn row_line_count(
     requires spelt { AreSpelt entity.now.tail }
     requires tail { IsTailOf entity.now.row entity.now.tail }
     requires delimiters { AreDelimiters comma semi }
-    ensures count { IfOk result (λ n. n ≡ lines_for (length (record_text comma semi entity.now.row entity.now.tail))) }
-    ensures too_many { IfErr result (λ e. most_counted_lines ≤ lines_for (length (record_text comma semi entity.now.row entity.now.tail))) }
+    ensures count { IfOk result (λ n.
+        n ≡ lines_for (length (record_text comma semi entity.now.row entity.now.tail))) }
+    ensures too_many { IfErr result (λ e. most_counted_lines ≤
+        lines_for (length (record_text comma semi entity.now.row entity.now.tail))) }
     ensures agrees { IfOk result (λ n. (lines : List (List ℕ)) →
-        AreLines 64 (record_text comma semi entity.now.row entity.now.tail) lines → length lines ≡ n) }
+        AreLines 64 (record_text comma semi entity.now.row entity.now.tail) lines →
+        length lines ≡ n) }
 {
     let count = counted_lines(entity);
     if count == MOST_COUNTED_LINES {
@@ -57,7 +60,8 @@ pub fn row_line_count(
 fn counted_lines(entity: &Entity) -> u64
     requires { IsLawfulRow entity.now.row }
     ensures { (comma semi : ℕ) →
-        result ≡ min (lines_for (length (record_text comma semi entity.now.row entity.now.tail))) most_counted_lines }
+        result ≡ min (lines_for (length (record_text comma semi entity.now.row entity.now.tail)))
+        most_counted_lines }
 {
     text_size(entity).div_ceil(RECORD_COLUMNS as u64)
 }
@@ -88,7 +92,8 @@ fn kept_size(text: &[u8]) -> u64
 fn laid_size(entity: &Entity) -> u64
     requires { IsLawfulRow entity.now.row }
     ensures { (comma semi : ℕ) →
-        result ≡ min (length (laid 64 comma semi 0 (tokens_of entity.now.row entity.now.tail))) most_counted }
+        result ≡ min (length (laid 64 comma semi 0 (tokens_of entity.now.row entity.now.tail)))
+        most_counted }
 {
     let mut measure = Measure { used: 0 };
     match push_record(&mut measure, entity) {

@@ -12,8 +12,8 @@ use itoa::Buffer;
 use solid_base::Token;
 use std::convert::Infallible;
 
-/// How many bytes tokens take in lines of 64 columns, each with a delimiter after it. The count stands
-/// still at its type's end. It takes no memory.
+/// How many bytes tokens take in lines of 64 columns, each with a delimiter after it. The count
+/// stands still at its type's end. It takes no memory.
 #[derive(Clone, Copy)]
 pub struct Measure {
     pub used: u64,
@@ -29,7 +29,8 @@ impl TokenSink for Measure {
 
     ghost with_none = { λ measure. ap (λ n. record { used = n }) (counted_none measure.used) };
 
-    ghost with_more = { λ measure tokens more. ap (λ n. record { used = n }) (counted_more measure.used tokens more) };
+    ghost with_more = { λ measure tokens more.
+        ap (λ n. record { used = n }) (counted_more measure.used tokens more) };
 
     #[tactic(auto, unfolding(crate::specs::WrittenRows::room_up_to_most))]
     fn push_whole(&mut self, number: i64) -> Result<(), Infallible> {

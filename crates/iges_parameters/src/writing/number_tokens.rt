@@ -15,7 +15,8 @@ pub fn push_numbers<S: TokenSink, const N: usize>(
 ) -> Result<(), S::Error>
     requires few { N < 100 }
     requires near { AllByRecursion (λ n. unsigned_abs n ≤ far) numbers.now }
-    ensures { OnOk result (tokens.new ≡ S.with tokens.old (whole (pos kind) ∷ tokens_by table.now.rules numbers.now)) }
+    ensures { OnOk result (tokens.new ≡
+        S.with tokens.old (whole (pos kind) ∷ tokens_by table.now.rules numbers.now)) }
 {
     tokens.push_whole(i64::from(kind))?;
     for at in 0..N {

@@ -1,7 +1,8 @@
 ghost use Rattle.std.specs.Prelude.{◌≡◌, ◌≤◌, ◌<◌, ◌++◌, ◌^◌, [], ◌∷◌, pos, map, length, OnOk};
 ghost use Rattle.std.specs.List.{AllByRecursion};
 ghost use Rattle.solid_base.specs.Ranges.{IsLawfulRow, IsLawfulMatrix, most_whole};
-ghost use Rattle.iges_parameters.specs.Writing.{whole, number_of_item, tokens_by, numbers_of_affine, parameters_of, tokens_of};
+ghost use Rattle.iges_parameters.specs.Writing.{whole, number_of_item, parameters_of, tokens_of};
+ghost use Rattle.iges_parameters.specs.Writing.{tokens_by, numbers_of_affine};
 ghost use Rattle.iges_parameters.specs.Tables.{matrix_rules, instance_rules};
 
 use crate::prims::push_prim;
@@ -14,7 +15,8 @@ use solid_base::{Affine, Entity, Item, Placed, Row, Token};
 /// them. AllocError when out of memory.
 pub fn push_record<S: TokenSink>(tokens: &mut S, entity: &Entity) -> Result<(), S::Error>
     requires lawful { IsLawfulRow entity.now.row }
-    ensures { OnOk result (tokens.new ≡ S.with tokens.old (tokens_of entity.now.row entity.now.tail)) }
+    ensures { OnOk result (tokens.new ≡
+        S.with tokens.old (tokens_of entity.now.row entity.now.tail)) }
 {
     push_row(tokens, &entity.row)?;
     push_tail(tokens, entity.tail.as_slice())
@@ -39,7 +41,8 @@ fn push_row<S: TokenSink>(tokens: &mut S, row: &Row) -> Result<(), S::Error>
 #[tactic(auto, unfolding(crate::specs::Tables::matrix_rules))]
 fn push_affine<S: TokenSink>(tokens: &mut S, affine: &Affine) -> Result<(), S::Error>
     requires { IsLawfulMatrix affine.now }
-    ensures { OnOk result (tokens.new ≡ S.with tokens.old (whole (pos 124) ∷ tokens_by matrix_rules (numbers_of_affine affine.now))) }
+    ensures { OnOk result (tokens.new ≡ S.with tokens.old
+        (whole (pos 124) ∷ tokens_by matrix_rules (numbers_of_affine affine.now))) }
 {
     push_numbers(tokens, 124, &MATRIX_TABLE, &numbers_of_affine(affine))
 }
@@ -63,14 +66,16 @@ fn numbers_of_affine(affine: &Affine) -> [i128; 12]
 #[tactic(auto, unfolding(crate::specs::Tables::instance_rules))]
 fn push_instance<S: TokenSink>(tokens: &mut S, child: u32) -> Result<(), S::Error>
     requires { child ≤ most_whole }
-    ensures { OnOk result (tokens.new ≡ S.with tokens.old (whole (pos 430) ∷ tokens_by instance_rules (pos child ∷ []))) }
+    ensures { OnOk result (tokens.new ≡
+        S.with tokens.old (whole (pos 430) ∷ tokens_by instance_rules (pos child ∷ []))) }
 {
     push_numbers(tokens, 430, &INSTANCE_TABLE, &[i128::from(child)])
 }
 
 fn push_tree<S: TokenSink>(tokens: &mut S, items: &[Item]) -> Result<(), S::Error>
     requires { length items.now ≤ most_whole }
-    ensures { OnOk result (tokens.new ≡ S.with tokens.old (whole (pos 180) ∷ whole (pos (length items.now)) ∷ map (λ i. whole (number_of_item i)) items.now)) }
+    ensures { OnOk result (tokens.new ≡ S.with tokens.old (whole (pos 180)
+        ∷ whole (pos (length items.now)) ∷ map (λ i. whole (number_of_item i)) items.now)) }
 {
     push_count(tokens, 180, items.len())?;
     for item in items {
@@ -82,7 +87,8 @@ fn push_tree<S: TokenSink>(tokens: &mut S, items: &[Item]) -> Result<(), S::Erro
 /// The type's number, and how many items follow.
 fn push_count<S: TokenSink>(tokens: &mut S, kind: u32, count: usize) -> Result<(), S::Error>
     requires { count ≤ most_whole }
-    ensures { OnOk result (tokens.new ≡ S.with tokens.old (whole (pos kind) ∷ whole (pos count) ∷ [])) }
+    ensures { OnOk result (tokens.new ≡
+        S.with tokens.old (whole (pos kind) ∷ whole (pos count) ∷ [])) }
 {
     tokens.push_whole(i64::from(kind))?;
     tokens.push_whole(count as i64)
@@ -103,7 +109,9 @@ fn number_of_item(item: Item) -> i64
 /// All items stand before all matrices.
 fn push_assembly<S: TokenSink>(tokens: &mut S, items: &[Placed]) -> Result<(), S::Error>
     requires { length items.now ≤ most_whole }
-    ensures { OnOk result (tokens.new ≡ S.with tokens.old (whole (pos 184) ∷ whole (pos (length items.now)) ∷ (map (λ p. whole (pos p.item)) items.now ++ map (λ p. whole (pos p.matrix)) items.now))) }
+    ensures { OnOk result (tokens.new ≡ S.with tokens.old (whole (pos 184)
+        ∷ whole (pos (length items.now)) ∷ (map (λ p. whole (pos p.item)) items.now
+        ++ map (λ p. whole (pos p.matrix)) items.now))) }
 {
     push_count(tokens, 184, items.len())?;
     push_placed_items(tokens, items)?;
@@ -111,7 +119,8 @@ fn push_assembly<S: TokenSink>(tokens: &mut S, items: &[Placed]) -> Result<(), S
 }
 
 fn push_placed_items<S: TokenSink>(tokens: &mut S, items: &[Placed]) -> Result<(), S::Error>
-    ensures { OnOk result (tokens.new ≡ S.with tokens.old (map (λ p. whole (pos p.item)) items.now)) }
+    ensures { OnOk result (tokens.new ≡
+        S.with tokens.old (map (λ p. whole (pos p.item)) items.now)) }
 {
     for placed in items {
         tokens.push_whole(i64::from(placed.item))?;
@@ -120,7 +129,8 @@ fn push_placed_items<S: TokenSink>(tokens: &mut S, items: &[Placed]) -> Result<(
 }
 
 fn push_placed_matrices<S: TokenSink>(tokens: &mut S, items: &[Placed]) -> Result<(), S::Error>
-    ensures { OnOk result (tokens.new ≡ S.with tokens.old (map (λ p. whole (pos p.matrix)) items.now)) }
+    ensures { OnOk result (tokens.new ≡
+        S.with tokens.old (map (λ p. whole (pos p.matrix)) items.now)) }
 {
     for placed in items {
         tokens.push_whole(i64::from(placed.matrix))?;

@@ -31,7 +31,8 @@ pub trait TokenSink {
 
     ghost with_none: { (sink : Self) → with sink [] ≡ sink };
 
-    ghost with_more: { (sink : Self) (tokens more : List token) → with (with sink tokens) more ≡ with sink (tokens ++ more) };
+    ghost with_more: { (sink : Self) (tokens more : List token) →
+        with (with sink tokens) more ≡ with sink (tokens ++ more) };
 }
 
 /// The tokens of a record, kept in memory.
@@ -48,9 +49,12 @@ impl TokenSink for KeptTokens {
 
     ghost with = { λ kept more. record { alloc = kept.alloc; tokens = kept.tokens ++ more } };
 
-    ghost with_none = { λ kept. ap (λ ts. record { alloc = kept.alloc; tokens = ts }) (append-nil kept.tokens) };
+    ghost with_none = { λ kept.
+        ap (λ ts. record { alloc = kept.alloc; tokens = ts }) (append-nil kept.tokens) };
 
-    ghost with_more = { λ kept tokens more. ap (λ ts. record { alloc = kept.alloc; tokens = ts }) (append_assoc kept.tokens tokens more) };
+    ghost with_more = { λ kept tokens more.
+        ap (λ ts. record { alloc = kept.alloc; tokens = ts })
+        (append_assoc kept.tokens tokens more) };
 
     fn push_whole(&mut self, number: i64) -> Result<(), AllocError> {
         let text = write_whole(self.alloc, number)?;

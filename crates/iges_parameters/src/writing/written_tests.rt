@@ -17,7 +17,8 @@ const Y: Vec3 = Vec3 { x: 0, y: U, z: 0 };
 
 const Z: Vec3 = Vec3 { x: 0, y: 0, z: U };
 
-/// Whether the lines of a row with these fields after it are these, with blanks after each, and are counted.
+/// Whether the lines of a row with these fields after it are these, with blanks after each, and are
+/// counted.
 fn has_lines(alloc: Global, row: Row, tail: Tokens, want: &[&str]) -> Result<bool, AllocError>
     requires lawful { IsLawfulRow row }
     requires spelt { AreSpelt tail }
