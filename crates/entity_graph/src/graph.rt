@@ -14,8 +14,8 @@ use solid_base::Rows;
 use std::alloc::Global;
 use std::marker::Model;
 
-/// Rows whose references obey the rules, with the depth and the weight of each and the first row that it
-/// reaches and that isn't read. Contracts see the rows.
+/// Rows whose references obey the rules, with the depth and the weight of each and the first row
+/// that it reaches and that isn't read. Contracts see the rows.
 #[derive(Debug, Drop)]
 pub struct Graph {
     rows: Rows,
@@ -38,11 +38,11 @@ impl Model for Graph {
 }
 
 impl Graph {
-    /// The graph of rows. Else the first fault of their references: each kind is looked for in all rows
-    /// before the next. Dangling where one names no entity or a null one, WrongTarget where it wants a
-    /// matrix and names none or the other way round, Cycle where a row reaches one that reaches itself,
-    /// TooDeep where a row has more than 64 levels, TooHeavy where it weighs more than 2^20; Memory when
-    /// out of memory.
+    /// The graph of rows. Else the first fault of their references: each kind is looked for in all
+    /// rows before the next. Dangling where one names no entity or a null one, WrongTarget where it
+    /// wants a matrix and names none or the other way round, Cycle where a row reaches one that
+    /// reaches itself, TooDeep where a row has more than 64 levels, TooHeavy where it weighs more
+    /// than 2^20; Memory when out of memory.
     pub fn check(alloc: Global, rows: &Rows) -> Result<Graph, GraphFault>
         requires { length rows.now ≤ 100000 }
         ensures graph { IfOk result (λ graph. graph ≡ rows.now) }
@@ -78,8 +78,8 @@ impl Graph {
         self.weights[(e / 2) as usize] as u64
     }
 
-    /// The depth of the row with a number: 1 where it names no other, else 1 more than the greatest depth
-    /// of those that it names.
+    /// The depth of the row with a number: 1 where it names no other, else 1 more than the greatest
+    /// depth of those that it names.
     pub fn depth(&self, e: u32) -> u64
         requires { HasNumber self.now e }
         ensures { result ≡ depth_of self.now e }
@@ -87,8 +87,8 @@ impl Graph {
         self.depths[(e / 2) as usize] as u64
     }
 
-    /// The least number of a row that isn't read, of those that the row with a number reaches, itself
-    /// among them; 0 where it reaches none.
+    /// The least number of a row that isn't read, of those that the row with a number reaches,
+    /// itself among them; 0 where it reaches none.
     pub fn opaque(&self, e: u32) -> u32
         requires { HasNumber self.now e }
         ensures { IsFirstOpaque self.now e result }

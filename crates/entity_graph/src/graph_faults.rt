@@ -14,7 +14,8 @@ pub enum GraphFault {
     /// The first entity names the second number, which no entity has, or a null one.
     #[error("entity {0} names {1}, which is no entity")]
     Dangling(u32, u32),
-    /// The first entity names the second where a matrix is wanted and it is none, or the other way round.
+    /// The first entity names the second where a matrix is wanted and it is none, or the other way
+    /// round.
     #[error("entity {0} names {1}, which isn't of the kind that is wanted")]
     WrongTarget(u32, u32),
     /// The entity reaches one that reaches itself.

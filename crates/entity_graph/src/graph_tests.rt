@@ -222,8 +222,8 @@ const fn placed(item: u32) -> Placed {
     Placed { item, matrix: 0 }
 }
 
-/// A ball, and rows of which each names the one before it twice: the last weighs 2^(len - 1). Then a row
-/// that names the last, and as often as is wanted the ball.
+/// A ball, and rows of which each names the one before it twice: the last weighs 2^(len - 1). Then
+/// a row that names the last, and as often as is wanted the ball.
 fn doubles(alloc: Global, len: u32, more: u32) -> Result<Rows, AllocError>
     requires at_least { 1 ≤ len }
     requires at_most { len ≤ 1000 }

@@ -14,7 +14,8 @@ pub fn one_outcome()
     ensures apart { (rows : List Entity) (f : GraphFault) → IsFault rows f → ¬ AreSound rows }
 {}
 
-/// A law on rows whose references obey the rules: that levels are counted changes no depth and no weight.
+/// A law on rows whose references obey the rules: that levels are counted changes no depth and no
+/// weight.
 pub fn without_levels()
     ensures { (rows : List Entity) → AreSound rows → (e : ℕ) → HasNoLevels rows e }
 {}

@@ -1,6 +1,6 @@
-//! The graph of a model's entities: whether the references obey the rules, the depth and the weight of
-//! each row, and the first row that it reaches and that isn't read.
-//! Contracts see a `Graph` as the list of the rows of which it was made, whose references obey the rules.
+//! The graph of a model's entities: whether the references obey the rules, the depth and the weight
+//! of each row, and the first row that it reaches and that isn't read. Contracts see a `Graph` as
+//! the list of the rows of which it was made, whose references obey the rules.
 #![tactic(auto)]
 
 mod graph;

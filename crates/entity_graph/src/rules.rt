@@ -9,7 +9,8 @@ use crate::graph_faults::GraphFault;
 use crate::links::Links;
 use solid_base::{Reference, Row, Rows};
 
-/// A rule on single references: the entity that is named stands there, or it is of the kind that is wanted.
+/// A rule on single references: the entity that is named stands there, or it is of the kind that is
+/// wanted.
 #[derive(Clone, Copy, Debug)]
 pub enum Rule {
     Present,
@@ -59,7 +60,8 @@ impl Rule {
         None
     }
 
-    /// The row and the number that it names, of the first reference of all rows that breaks the rule.
+    /// The row and the number that it names, of the first reference of all rows that breaks the
+    /// rule.
     fn first_of(self, links: &Links) -> Option<(u32, u32)>
         requires { length links.now ≤ 100000 }
         ensures { MatchOption result
@@ -75,8 +77,8 @@ impl Rule {
     }
 }
 
-/// Whether each reference names an entity of the kind that is wanted. Dangling where the first that names
-/// none does, else WrongTarget where the first of the wrong kind does. It takes no memory.
+/// Whether each reference names an entity of the kind that is wanted. Dangling where the first that
+/// names none does, else WrongTarget where the first of the wrong kind does. It takes no memory.
 pub fn check_references(links: &Links) -> Result<(), GraphFault>
     requires { length links.now ≤ 100000 }
     ensures present { IfOk result (λ _. ArePresent links.now) }

@@ -21,8 +21,8 @@ struct Step {
     next: usize,
 }
 
-/// Goes on from a row that wasn't seen until it and all that it reaches stand in the order. False where it
-/// reaches a cycle.
+/// Goes on from a row that wasn't seen until it and all that it reaches stand in the order. False
+/// where it reaches a cycle.
 fn visit(
     alloc: Global,
     links: &Links,
@@ -74,8 +74,8 @@ fn visit(
     }
 }
 
-/// The places of all rows in an order in which what a row names comes before it, or the first place of a
-/// row that reaches a cycle.
+/// The places of all rows in an order in which what a row names comes before it, or the first place
+/// of a row that reaches a cycle.
 pub fn find_order(alloc: Global, links: &Links) -> Result<Result<Vec<u32>, u32>, AllocError>
     requires size { length links.now ≤ 100000 }
     requires within { (e c : ℕ) → Names (places links.now) e c → c < length links.now }

@@ -28,8 +28,8 @@ fn order_found(found: Result<Vec<u32>, u32>) -> Result<Vec<u32>, GraphFault>
     }
 }
 
-/// The places of rows in an order in which what a row names comes before it. Cycle where there is none,
-/// Memory when out of memory.
+/// The places of rows in an order in which what a row names comes before it. Cycle where there is
+/// none, Memory when out of memory.
 pub fn find_places(alloc: Global, links: &Links) -> Result<Vec<u32>, GraphFault>
     requires few { length links.now ≤ 100000 }
     requires present { ArePresent links.now }
@@ -96,8 +96,8 @@ fn check_weights(links: &Links, weights: &[u32]) -> Result<(), GraphFault>
     }
 }
 
-/// The weight of each row, none of which is more than may be. TooHeavy where one is, Memory when out
-/// of memory.
+/// The weight of each row, none of which is more than may be. TooHeavy where one is, Memory when
+/// out of memory.
 pub fn find_weights(alloc: Global, links: &Links, order: &[u32]) -> Result<Vec<u32>, GraphFault>
     requires few { length links.now ≤ 100000 }
     requires present { ArePresent links.now }

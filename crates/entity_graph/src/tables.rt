@@ -14,8 +14,8 @@ use std::alloc::{AllocError, Global};
 /// The greatest weight that an entity may have.
 pub const MOST_WEIGHT: u32 = 1 << 20;
 
-/// What a table holds of each row: its depth, but one more than may be where it is greater than that; its
-/// weight, likewise; or the first row that it reaches and that isn't read.
+/// What a table holds of each row: its depth, but one more than may be where it is greater than
+/// that; its weight, likewise; or the first row that it reaches and that isn't read.
 #[derive(Clone, Copy, Debug)]
 pub enum Measure {
     Depth,
