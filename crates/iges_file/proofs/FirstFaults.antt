@@ -1,5 +1,5 @@
 -- The fault of a part is the file's first fault, where the parts before it are whole.
-use Rattle.std.proofs.Common.{◌≡◌, ℕ, ◌≤◌, List, length, Err, refl}
+use Rattle.std.proofs.Common.{◌≡◌, ℕ, ◌≤◌, ◌<◌, List, length, Err, refl}
 use Rattle.iges_cards.specs.declared.reader.Cards.{Cards}
 use Rattle.iges_cards.specs.declared.faults.CardFault.{CardFault}
 use Rattle.iges_cards.specs.declared.faults.CardFault.TheVariants as card
@@ -61,6 +61,11 @@ rows_refused bytes cs g ps (fault.Directory f) form whole all h text = absurd h
 rows_refused bytes cs g ps (fault.BadRow entity f) form whole all h text = record { cards = cs; text = g; pairs = ps; form = form; globals = whole; directory = all; first = h }
 rows_refused bytes cs g ps fault.TooManyLines form whole all h text = absurd h
 rows_refused bytes cs g ps (fault.Graph f) form whole all h text = absurd h
+
+pub lines_refused : (bytes : List ℕ) (cs : Cards) (g : GlobalText) (ps : List Pair) (rows : List Entity) (f : FileFault) → IsFixedForm bytes cs → IsGlobal cs.global g → IsDirectory (length cs.params) cs.directory ps
+    → AreEntities g.comma g.semi cs.params ps rows → f ≡ fault.TooManyLines → most_lines < lines_of g.comma g.semi rows → IsOfText f → Refused bytes f
+lines_refused bytes cs g ps rows f form whole all es is many text =
+    rw is (record { cards = cs; text = g; pairs = ps; rows = rows; form = form; globals = whole; directory = all; entities = es; many = many })
 
 pub graph_refused : (bytes : List ℕ) (cs : Cards) (g : GlobalText) (ps : List Pair) (rows : List Entity) (f : GraphFault) → IsFixedForm bytes cs → IsGlobal cs.global g → IsDirectory (length cs.params) cs.directory ps
     → AreEntities g.comma g.semi cs.params ps rows → lines_of g.comma g.semi rows ≤ most_lines → (graphs.IsOfText f → IsFault rows f) → IsOfText (of_graph f) → Refused bytes (of_graph f)

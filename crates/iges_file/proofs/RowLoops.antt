@@ -1,4 +1,4 @@
--- The entities of entries, read one after the other, as a loop does; and their lines, counted so.
+-- The entities of entries, read one after the other, as a loop does.
 use Rattle.std.proofs.Common.{◌≡◌, ℕ, zero, suc, ◌+◌, ◌*◌, List, [], ◌∷◌, ◌++◌, length, drop, Some, slice_get, Ok, Err, refl, arith}
 use Rattle.std.specs.List.{AllByRecursion}
 use Rattle.solid_base.specs.declared.entities.Entity.{Entity}
@@ -41,19 +41,6 @@ row_blamed comma semi params front rest es pair number (row.BadSize i) good is b
 row_blamed comma semi params front rest es pair number (row.BadAxis i) good is bad = blamed comma semi params front rest es pair number (row.BadAxis i) good is (bad (λ e. cc))
 row_blamed comma semi params front rest es pair number row.BadMatrix good is bad = blamed comma semi params front rest es pair number row.BadMatrix good is (bad (λ e. cc))
 row_blamed comma semi params front rest es pair number (row.BadPostfix i) good is bad = blamed comma semi params front rest es pair number (row.BadPostfix i) good is (bad (λ e. cc))
-
--- the lines of the entity at a place, and of those after it
-pub lines_next : (comma semi : ℕ) (rows : List Entity) (at : ℕ) (e : Entity) → slice_get rows at ≡ Some e
-    → lines_of comma semi (drop at rows) ≡ lines_for (length (record_text comma semi e.row e.tail)) + lines_of comma semi (drop (suc at) rows)
-lines_next comma semi [] at e is = cc
-lines_next comma semi (r ∷ rows) zero e is = let same : r ≡ e = cc in rw same refl
-lines_next comma semi (r ∷ rows) (suc at) e is = lines_next comma semi rows at e is
-
--- what holds of each item from a place on holds of each after it
-pub all_after : {X : Type 0} (P : X → Type 0) (xs : List X) (at : ℕ) → AllByRecursion P (drop at xs) → AllByRecursion P (drop (suc at) xs)
-all_after P [] at all = tt
-all_after P (x ∷ xs) zero all = all.1
-all_after P (x ∷ xs) (suc at) all = all_after P xs at all
 
 -- an entity for each entry
 pub entities_counted : (comma semi : ℕ) (params : List (List ℕ)) (pairs : List Pair) (rows : List Entity) → AreEntities comma semi params pairs rows → length rows ≡ length pairs

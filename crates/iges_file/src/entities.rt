@@ -8,12 +8,9 @@ ghost use Rattle.iges_parameters.specs.Accepted.{IsAcceptedEntity};
 ghost use Rattle.iges_file.specs.Entities.{text_of, kept_entity, known_entity, entity_with, entity_in, AreColumns, IsEntry, HasLines};
 
 use iges_directory::Pair;
-use iges_parameters::{RowFault, is_read, read_known_row};
+use iges_parameters::{RECORD_COLUMNS, RowFault, is_read, read_known_row};
 use solid_base::{BorrowedLines, Bytes, Entity, Row, RowText, Tokens, without_blanks_after};
 use std::alloc::{AllocError, Global};
-
-/// The columns of a parameter line.
-const WIDTH: usize = 64;
 
 /// So many lines of 64 columns from a place on, joined.
 fn joined(
@@ -26,7 +23,7 @@ fn joined(
     requires few { count ≤ 500000 }
     ensures { IfOk result (λ text. text.items ≡ concat (take count (drop first lines.now))) }
 {
-    let mut text = Vec::with_capacity(alloc, count as usize * WIDTH)?;
+    let mut text = Vec::with_capacity(alloc, count as usize * RECORD_COLUMNS)?;
     for at in first as usize..first as usize + count as usize {
         text.extend_from_slice(lines.get(at))?;
     }

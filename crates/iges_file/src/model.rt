@@ -4,15 +4,12 @@ ghost use Rattle.iges_parameters.specs.Accepted.{IsAccepted};
 ghost use Rattle.iges_file.specs.Files.{Reads, Refused};
 
 use crate::faults::FileFault;
-use crate::rows::{count_lines, read_rows};
+use crate::rows::{check_lines, read_rows};
 use entity_graph::Graph;
 use iges_cards::read_cards;
 use iges_directory::{read_directory, read_global};
 use solid_base::Model;
 use std::alloc::Global;
-
-/// How many lines the records of a model may take.
-const MOST_LINES: u64 = 300_000;
 
 /// What a file is read as.
 #[derive(Debug, Drop)]
@@ -47,9 +44,7 @@ pub fn read_file(alloc: Global, bytes: &[u8]) -> Result<ReadFile, FileFault>
     let global = read_global(alloc, cards.global.as_slice())?;
     let pairs = read_directory(alloc, &cards.directory, cards.params.len() as u32)?;
     let rows = read_rows(alloc, global.comma, global.semi, &cards.params, pairs)?;
-    if count_lines(alloc, global.comma, global.semi, &rows)? > MOST_LINES {
-        return Err(FileFault::TooManyLines);
-    }
+    check_lines(&rows)?;
     let graph = Graph::check(alloc, &rows)?;
     let model = Model {
         start: cards.start,

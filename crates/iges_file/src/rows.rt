@@ -1,18 +1,21 @@
-ghost use Rattle.std.specs.Prelude.{◌≡◌, ◌<◌, ◌≤◌, ◌+◌, ◌*◌, ◌^◌, ◌++◌, ◌∷◌, [], length, map, Ok, Err, IfOk, IfErr, OnOk};
+ghost use Rattle.std.specs.Prelude.{◌≡◌, ℕ, ◌<◌, ◌≤◌, ◌+◌, ◌*◌, ◌^◌, ◌++◌, ◌∷◌, [], length, map, Ok, Err, IfOk, IfErr, OnOk};
 ghost use Rattle.std.specs.List.{AllByRecursion};
 ghost use Rattle.std.specs.Arc.{arc_value};
 ghost use Rattle.iges_fields.specs.Delimiters.{AreDelimiters};
-ghost use Rattle.iges_parameters.specs.Accepted.{IsAcceptedEntity, IsWritable, lines_of};
+ghost use Rattle.iges_parameters.specs.Accepted.{IsAcceptedEntity, lines_of, most_lines};
 ghost use Rattle.iges_file.specs.Entities.{AreEntities, AreColumns, IsEntry, HasLines, IsRowsFault};
 ghost use Rattle.iges_file.specs.Faults.{of_row, IsOuter};
 
 use crate::entities::read_entity;
 use crate::faults::FileFault;
 use iges_directory::Pair;
-use iges_parameters::{RowFault, row_line_count};
+use iges_parameters::{RowFault, line_count};
 use solid_base::{BorrowedLines, Entity, Rows};
 use std::alloc::{AllocError, Global};
 use std::sync::Arc;
+
+/// How many lines the records of a model may take.
+const MOST_LINES: u64 = 300_000;
 
 /// The fault of an entity's record as a fault of the file.
 fn of_row(entity: u32, fault: RowFault) -> FileFault
@@ -64,16 +67,15 @@ pub fn read_rows(
     Ok(Rows::from_vec(rows))
 }
 
-/// How many lines of 64 columns the records of entities take where they are written.
-pub fn count_lines(alloc: Global, comma: u8, semi: u8, rows: &Rows) -> Result<u64, AllocError>
-    requires writable { AllByRecursion IsWritable rows.now }
-    requires delimiters { AreDelimiters comma semi }
-    ensures { IfOk result (λ n. n ≡ lines_of comma semi rows.now) }
+/// TooManyLines exactly where the records of entities take more than 300,000 lines. It takes no memory.
+pub fn check_lines(rows: &Rows) -> Result<(), FileFault>
+    requires { AllByRecursion IsAcceptedEntity rows.now }
+    ensures few { IfOk result (λ _. (comma semi : ℕ) → lines_of comma semi rows.now ≤ most_lines) }
+    ensures many { IfErr result (λ fault. (fault ≡ FileFault.TooManyLines) ×
+        ((comma semi : ℕ) → most_lines < lines_of comma semi rows.now)) }
 {
-    let mut count: u64 = 0;
-    for at in 0..rows.len() {
-        let lines = row_line_count(alloc, rows.get(at), comma, semi)?;
-        count = count.checked_add(lines).ok_or(AllocError)?;
+    if line_count(rows) > MOST_LINES {
+        return Err(FileFault::TooManyLines);
     }
-    Ok(count)
+    Ok(())
 }

@@ -6,7 +6,7 @@ use Rattle.solid_base.specs.declared.entities.Model.{Model}
 use Rattle.iges_file.proofs.AcceptedFacts.{model_accepted}
 use Rattle.iges_file.proofs.FormFacts.{form_within}
 use Rattle.iges_file.proofs.DirectoryFacts.{few_pairs, all_have_lines, all_are_entries}
-use Rattle.iges_file.proofs.FirstFaults.{global_refused, directory_refused, rows_refused, graph_refused}
+use Rattle.iges_file.proofs.FirstFaults.{global_refused, directory_refused, rows_refused, lines_refused, graph_refused}
 use Rattle.iges_file.proofs.RowLoops.{entities_counted}
 use Rattle.iges_parameters.specs.Accepted.{lines_of, most_lines}
 use Rattle.iges_file.proofs.model.read_file.Goals as goal
@@ -62,21 +62,16 @@ returns-in_err-rows-clause-refused c =
     let all = rw c.len.ensures at c.in_ok-pairs.ensures.directory in
     rw (p.1, p.2) (rows_refused c.args.bytes.now c.in_ok-cards.cards c.in_ok-global.global c.in_ok-pairs.pairs.items c.in_err-rows.field-0.0 c.in_ok-cards.ensures.fixed_form whole all c.in_err-rows.ensures.first_fault)
 
-pub returns-then-branch-gt-MOST_LINES-clause-refused : goal.returns-then-branch-gt-MOST_LINES-clause-refused
-returns-then-branch-gt-MOST_LINES-clause-refused c =
+pub check_lines-requires : goal.check_lines-requires
+check_lines-requires c = c.in_ok-rows.ensures.accepted
+
+pub returns-in_err-check_lines-clause-refused : goal.returns-in_err-check_lines-clause-refused
+returns-in_err-check_lines-clause-refused c =
+    let p = err_from_is_err_and c.from_residual-in_err-check_lines.result c.from_residual-in_err-check_lines.ensures.1 in
     let whole = rw c.as_slice.ensures at c.in_ok-global.ensures.found in
     let all = rw c.len.ensures at c.in_ok-pairs.ensures.directory in
-    λ text. record {
-      cards = c.in_ok-cards.cards;
-      text = c.in_ok-global.global;
-      pairs = c.in_ok-pairs.pairs.items;
-      rows = c.in_ok-rows.rows;
-      form = c.in_ok-cards.ensures.fixed_form;
-      globals = whole;
-      directory = all;
-      entities = c.in_ok-rows.ensures.found;
-      many = omega (arith, c.in_ok-count_lines.ensures, c.if-branch-gt-MOST_LINES.true);
-    }
+    let many = c.in_err-check_lines.ensures.many in
+    rw (p.1, p.2) (lines_refused c.args.bytes.now c.in_ok-cards.cards c.in_ok-global.global c.in_ok-pairs.pairs.items c.in_ok-rows.rows c.in_err-check_lines.field-0.0 c.in_ok-cards.ensures.fixed_form whole all c.in_ok-rows.ensures.found many.0 (many.1 c.in_ok-global.global.comma c.in_ok-global.global.semi))
 
 pub check-requires : goal.check-requires
 check-requires c =
@@ -89,7 +84,7 @@ returns-in_err-graph-clause-refused c =
     let p = err_from_is_err_and c.from_residual-in_err-graph.result c.from_residual-in_err-graph.ensures.1 in
     let whole = rw c.as_slice.ensures at c.in_ok-global.ensures.found in
     let all = rw c.len.ensures at c.in_ok-pairs.ensures.directory in
-    let few : lines_of c.in_ok-global.global.comma c.in_ok-global.global.semi c.in_ok-rows.rows ≤ most_lines = omega (arith, c.in_ok-count_lines.ensures, c.if-branch-gt-MOST_LINES.false) in
+    let few : lines_of c.in_ok-global.global.comma c.in_ok-global.global.semi c.in_ok-rows.rows ≤ most_lines = c.in_ok-check_lines.ensures.few c.in_ok-global.global.comma c.in_ok-global.global.semi in
     rw (p.1, p.2) (graph_refused c.args.bytes.now c.in_ok-cards.cards c.in_ok-global.global c.in_ok-pairs.pairs.items c.in_ok-rows.rows c.in_err-graph.field-0.0 c.in_ok-cards.ensures.fixed_form whole all c.in_ok-rows.ensures.found few c.in_err-graph.ensures.first_fault)
 
 pub returns-clause-reads : goal.returns-clause-reads
@@ -105,7 +100,7 @@ returns-clause-reads c =
       globals = whole;
       directory = all;
       entities = c.in_ok-rows.ensures.found;
-      few = omega (arith, c.in_ok-count_lines.ensures, c.if-branch-gt-MOST_LINES.false);
+      few = c.in_ok-check_lines.ensures.few c.in_ok-global.global.comma c.in_ok-global.global.semi;
       sound = c.in_ok-graph.ensures.sound;
     }
 
