@@ -1,4 +1,4 @@
-use crate::{FileFault, read_model};
+use crate::{FileFault, read_file, read_model};
 use solid_base::{Prim, Row, U, Vec3};
 use std::alloc::{AllocError, Global};
 use std::process::Abort;
@@ -50,13 +50,14 @@ fn reads_a_model(rt: HostRuntime) -> Result<(), AllocError> {
         let end = bytes.len();
         bytes.extend_from_slice(b"@1 point 1 0 0 0\n")?;
         assert!(rt; bytes.len() <= 1000);
-        match read_model(alloc, &bytes) {
-            Ok((model, place)) => {
+        match read_file(alloc, &bytes) {
+            Ok(read) => {
                 let prim = Prim::Sphere { r, centre: origin };
-                assert_eq!(rt; place, end, "record {record:?}");
-                assert_eq!(rt; model.rows.len(), 1, "record {record:?}");
+                assert_eq!(rt; read.end, end, "record {record:?}");
+                assert_eq!(rt; read.model.rows.len(), 1, "record {record:?}");
+                assert_eq!(rt; read.graph.weight(1), 1, "record {record:?}");
                 assert_eq!(rt;
-                    model.rows.get(0).row,
+                    read.model.rows.get(0).row,
                     Row::Prim { prim, matrix: 0 },
                     "record {record:?}"
                 );
@@ -108,7 +109,7 @@ fn words(rt: &impl Abort, alloc: Global, bytes: &[u8]) -> Result<Vec<u8>, AllocE
 }
 
 #[test]
-fn tells_the_first_fault(rt: HostRuntime) -> Result<(), AllocError> {
+fn reports_the_first_fault(rt: HostRuntime) -> Result<(), AllocError> {
     let alloc = rt.alloc();
     let matrix: &[u8] = b"     158       1                                      -1        00000000";
     let faulty: &[u8] = b"S      1G      1D      2P      2";
@@ -213,7 +214,7 @@ fn file_of(rt: &impl Abort, alloc: Global, records: &[Record]) -> Result<Vec<u8>
 }
 
 #[test]
-fn tells_faults_of_references(rt: HostRuntime) -> Result<(), AllocError> {
+fn reports_faults_of_references(rt: HostRuntime) -> Result<(), AllocError> {
     let alloc = rt.alloc();
     let ball = "158,1.;";
     let turn = "124,0.,-1.,0.,0.,1.,0.,0.,0.,0.,0.,1.,0.;";
