@@ -55,7 +55,6 @@ fn reads_a_model(rt: HostRuntime) -> Result<(), AllocError> {
                 let prim = Prim::Sphere { r, centre: origin };
                 assert_eq!(rt; read.end, end, "record {record:?}");
                 assert_eq!(rt; read.model.rows.len(), 1, "record {record:?}");
-                assert_eq!(rt; read.graph.weight(1), 1, "record {record:?}");
                 assert_eq!(rt;
                     read.model.rows.get(0).row,
                     Row::Prim { prim, matrix: 0 },
