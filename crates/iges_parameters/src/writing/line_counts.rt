@@ -31,6 +31,7 @@ pub fn line_count(rows: &Rows) -> u64
 
 /// How many lines `row_lines` makes. It takes no memory; AllocError where they are
 /// `MOST_COUNTED_LINES` or more.
+#[tactic(auto, using(crate::proofs::Rooms::lines_are))]
 pub fn row_line_count(
     _alloc: Global,
     entity: &Entity,
