@@ -1,5 +1,5 @@
 -- The fields that are left after a row's parameters are the last ones of the record: what holds of the fields of a record, and of all but the first where it holds of a list, holds of them.
-use Rattle.std.proofs.Common.{◌≡◌, ℕ, zero, suc, ◌+◌, List, [], ◌∷◌, ◌++◌, length, replicate, Bool, true, false, cond, ◌==◌, Option, Some, None, Result, Ok, Err, ℤ, refl, ap, subst, ◌∙◌}
+use Rattle.std.proofs.Common.{◌≡◌, ℕ, zero, suc, List, [], ◌∷◌, ◌++◌, length, replicate, Bool, true, false, cond, ◌==◌, Option, Some, None, Result, Ok, Err, ℤ, ap, subst, ◌∙◌}
 use Rattle.solid_base.specs.declared.solids.Item.{Item}
 use Rattle.solid_base.specs.declared.solids.Primitive.{Primitive}
 use Rattle.solid_base.specs.declared.solids.Row.{Row}
@@ -11,8 +11,9 @@ use Rattle.iges_parameters.specs.declared.tables.Rule.{Rule}
 use Rattle.iges_parameters.specs.Rules.{Place, next_field, token_at, whole_of, value_of, parameter_at, numbers_from, numbers_by}
 use Rattle.iges_parameters.specs.Tables.{number, number_or_none, list_rules, block_rules, wedge_rules, cylinder_rules, cone_rules, sphere_rules, torus_rules, ellipsoid_rules, matrix_rules, instance_rules, is_read}
 use Rattle.iges_parameters.specs.Rows.{block_of, wedge_of, cylinder_of, cone_of, sphere_of, torus_of, ellipsoid_of, affine_of, checked_prim, checked_affine, prim_by, prim_at}
-use Rattle.iges_parameters.specs.Lists.{trees_in, count_at, item_with, item_at, items_from, tree_at, placed_at, assembly_at}
-use Rattle.iges_parameters.specs.Records.{type_of, type_at, prim_row, matrix_row, instance_row, tree_row, assembly_row, row_at, tail_from, with_tail, record_of}
+use Rattle.boolean_tree.specs.Spelling.{trees_of_items}
+use Rattle.iges_parameters.specs.Lists.{count_at, item_with, item_at, items_from, tree_at, placed_at, assembly_at}
+use Rattle.iges_parameters.specs.Records.{type_of, type_at, matrix_row, instance_row, tree_row, assembly_row, row_at, tail_from, with_tail, record_of}
 use Rattle.iges_parameters.proofs.ItemsSteps.{bind_ok, ok_same}
 
 -- what holds of a list of fields holds of those after its first
@@ -73,7 +74,7 @@ item_leaves K rest before p all =
 
 items_leave : (K : List (Option Token) → Type 0) → IsOfRest K → (count : ℕ) (before : List Item) (p : Place) → K p.fields → Leaves K (items_from count before p)
 unfolding items_from
-items_leave K rest zero before p all = cond_leaves K (length (trees_in before) == 1) (Ok (before, p)) (Err (fault.BadPostfix 1)) all tt
+items_leave K rest zero before p all = cond_leaves K (length (trees_of_items before) == 1) (Ok (before, p)) (Err (fault.BadPostfix 1)) all tt
 items_leave K rest (suc n) before p all =
     step_leaves K (item_at before p) _ (item_leaves K rest before p all) (λ i left. items_leave K rest n (before ++ i.0 ∷ []) i.1 left)
 

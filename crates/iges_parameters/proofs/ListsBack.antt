@@ -14,7 +14,9 @@ use Rattle.iges_parameters.specs.declared.faults.RowFault.TheVariants as fault
 use Rattle.solid_base.specs.Outcomes.{◌>>=◌}
 use Rattle.iges_parameters.specs.Rules.{Place, token_at, numbers_by, has_size, parameter}
 use Rattle.iges_parameters.specs.Tables.{list_rules, number, number_or_none}
-use Rattle.iges_parameters.specs.Lists.{count_at, with_item, trees_in, item_with, item_at, items_from, tree_at, placed_all, placed_at, assembly_at}
+use Rattle.boolean_tree.specs.Spelling.{with_item, trees_of_items}
+use Rattle.boolean_tree.proofs.Spelling.{fold_joined, fold_tree}
+use Rattle.iges_parameters.specs.Lists.{count_at, item_with, item_at, items_from, tree_at, placed_all, placed_at, assembly_at}
 use Rattle.iges_parameters.specs.Writing.{whole, number_of_item, tokens_by}
 use Rattle.iges_parameters.proofs.NumbersBack.{ReadsTo, AreSuited, whole_again, numbers_again}
 
@@ -38,25 +40,8 @@ count_again count index fs some most =
     )
 
 -- ---- Boolean trees
-fold_joined : (items more : List Item) (ts : List Tree) → fold with_item ts (items ++ more) ≡ fold with_item (fold with_item ts items) more
-fold_joined [] more ts = refl
-fold_joined (i ∷ items) more ts = fold_joined items more (with_item ts i)
-
-with_item_of : (o : Operation) (a b : Tree) (ts : List Tree) → with_item (b ∷ a ∷ ts) (item_of o) ≡ combination o a b ∷ ts
-with_item_of union a b ts = refl
-with_item_of intersection a b ts = refl
-with_item_of difference a b ts = refl
-
--- after the items of a tree it is the last of the whole trees
-fold_tree : (t : Tree) (ts : List Tree) → fold with_item ts (post_order t) ≡ t ∷ ts
-fold_tree (operand entity) ts = refl
-fold_tree (combination o a b) ts =
-    fold_joined (post_order a ++ post_order b) (item_of o ∷ []) ts
-    ∙ ap (λ (xs : List Tree). fold with_item xs (item_of o ∷ [])) (fold_joined (post_order a) (post_order b) ts ∙ ap (λ (xs : List Tree). fold with_item xs (post_order b)) (fold_tree a ts) ∙ fold_tree b (a ∷ ts))
-    ∙ with_item_of o a b ts
-
-trees_after : (items : List Item) (t : Tree) → trees_in (items ++ post_order t) ≡ t ∷ trees_in items
-unfolding trees_in
+trees_after : (items : List Item) (t : Tree) → trees_of_items (items ++ post_order t) ≡ t ∷ trees_of_items items
+unfolding trees_of_items
 trees_after items t = fold_joined items (post_order t) [] ∙ fold_tree t (fold with_item [] items)
 
 abbrev item_token : Item → Token
@@ -72,9 +57,9 @@ item_number item.Less h = omega arith
 -- before an operation two trees stand at least
 abbrev HasOperands : List Item → Item → Type 0
 HasOperands before (item.Operand entity) = Unit {0}
-HasOperands before item.Join = 2 ≤ length (trees_in before)
-HasOperands before item.Meet = 2 ≤ length (trees_in before)
-HasOperands before item.Less = 2 ≤ length (trees_in before)
+HasOperands before item.Join = 2 ≤ length (trees_of_items before)
+HasOperands before item.Meet = 2 ≤ length (trees_of_items before)
+HasOperands before item.Less = 2 ≤ length (trees_of_items before)
 
 enough : (n : ℕ) → 2 ≤ n → nat_lt n 2 ≡ false
 enough n h = grind (arith, nat_tests)
@@ -83,9 +68,9 @@ item_known : (index : ℕ) (before : List Item) (i : Item) → IsLawfulItem i �
 unfolding item_with
 item_known index before (item.Operand zero) h two = absurd (let some = h.0 in omega arith)
 item_known index before (item.Operand (suc entity)) h two = let size : entity + 1 ≡ suc entity = omega arith in ap (λ (n : ℕ). Ok (item.Operand n)) size
-item_known index before item.Join h two = ap (λ (b : Bool). cond b (Err (fault.BadPostfix index)) (Ok item.Join)) (enough (length (trees_in before)) two)
-item_known index before item.Meet h two = ap (λ (b : Bool). cond b (Err (fault.BadPostfix index)) (Ok item.Meet)) (enough (length (trees_in before)) two)
-item_known index before item.Less h two = ap (λ (b : Bool). cond b (Err (fault.BadPostfix index)) (Ok item.Less)) (enough (length (trees_in before)) two)
+item_known index before item.Join h two = ap (λ (b : Bool). cond b (Err (fault.BadPostfix index)) (Ok item.Join)) (enough (length (trees_of_items before)) two)
+item_known index before item.Meet h two = ap (λ (b : Bool). cond b (Err (fault.BadPostfix index)) (Ok item.Meet)) (enough (length (trees_of_items before)) two)
+item_known index before item.Less h two = ap (λ (b : Bool). cond b (Err (fault.BadPostfix index)) (Ok item.Less)) (enough (length (trees_of_items before)) two)
 
 item_again : (index : ℕ) (before : List Item) (i : Item) (fs : List (Option Token)) → IsLawfulItem i → HasOperands before i
     → item_at before (record { index = index; fields = Some (item_token i) ∷ fs }) ≡ Ok (i, record { index = index + 1; fields = fs })
@@ -104,7 +89,7 @@ item_step : (more index : ℕ) (before : List Item) (i : Item) (fs : List (Optio
 unfolding items_from
 item_step more index before i fs h two = ap (λ (r : Result (Item × Place) RowFault). r >>= λ x. items_from more (before ++ x.0 ∷ []) x.1) (item_again index before i fs h two)
 
-operands_of : (o : Operation) (before : List Item) → 2 ≤ length (trees_in before) → HasOperands before (item_of o)
+operands_of : (o : Operation) (before : List Item) → 2 ≤ length (trees_of_items before) → HasOperands before (item_of o)
 operands_of union before h = h
 operands_of intersection before h = h
 operands_of difference before h = h
@@ -144,8 +129,8 @@ tree_step (combination o a b) more index before fs h =
     let (i, left_read) = tree_step a (length (post_order b) + suc more) index before after_left (all_front (post_order a) (post_order b) both) in
     let (j, right_read) = tree_step b (suc more) i (before ++ post_order a) after_right (all_back (post_order a) (post_order b) both) in
     let all : List Item = (before ++ post_order a) ++ post_order b in
-    let trees : trees_in all ≡ b ∷ a ∷ trees_in before = trees_after (before ++ post_order a) b ∙ ap (λ (ts : List Tree). b ∷ ts) (trees_after before a) in
-    let two : 2 ≤ length (trees_in all) = subst (λ (ts : List Tree). 2 ≤ length ts) (sym trees) (let n : 2 ≤ length (b ∷ a ∷ trees_in before) = omega arith in n) in
+    let trees : trees_of_items all ≡ b ∷ a ∷ trees_of_items before = trees_after (before ++ post_order a) b ∙ ap (λ (ts : List Tree). b ∷ ts) (trees_after before a) in
+    let two : 2 ≤ length (trees_of_items all) = subst (λ (ts : List Tree). 2 ≤ length ts) (sym trees) (let n : 2 ≤ length (b ∷ a ∷ trees_of_items before) = omega arith in n) in
     let glue : all ++ last ≡ before ++ (post_order a ++ right) = append_assoc (before ++ post_order a) (post_order b) last ∙ append_assoc before (post_order a) right in (
       j + 1,
       ap (λ (xs : List Item). items_from (length xs + more) before (places index xs fs)) nested
@@ -158,16 +143,16 @@ tree_step (combination o a b) more index before fs h =
           ∙ ap (λ (xs : List Item). items_from more xs (record { index = j + 1; fields = fs })) (glue ∙ ap (λ (xs : List Item). before ++ xs) (sym nested)),
     )
 
-items_done : (items : List Item) (p : Place) → length (trees_in items) ≡ 1 → items_from 0 items p ≡ Ok (items, p)
+items_done : (items : List Item) (p : Place) → length (trees_of_items items) ≡ 1 → items_from 0 items p ≡ Ok (items, p)
 unfolding items_from
 items_done items p one = ap (λ (n : ℕ). cond (n == 1) (Ok (items, p)) (Err (fault.BadPostfix 1))) one
 
-no_trees : length (trees_in []) ≡ 0
-unfolding trees_in
+no_trees : length (trees_of_items []) ≡ 0
+unfolding trees_of_items
 no_trees = refl
 
-one_tree : (t : Tree) → length (trees_in (post_order t)) ≡ 1
-one_tree t = ap (λ (ts : List Tree). length ts) (trees_after [] t) ∙ (let n : length (t ∷ trees_in []) ≡ 1 = omega (arith, no_trees) in n)
+one_tree : (t : Tree) → length (trees_of_items (post_order t)) ≡ 1
+one_tree t = ap (λ (ts : List Tree). length ts) (trees_after [] t) ∙ (let n : length (t ∷ trees_of_items []) ≡ 1 = omega (arith, no_trees) in n)
 
 pub some_items : (t : Tree) → 0 < length (post_order t)
 some_items (operand entity) = omega arith

@@ -16,7 +16,8 @@ use Rattle.iges_parameters.specs.declared.tables.Values.TheVariants as values
 use Rattle.solid_base.specs.Outcomes.{◌>>=◌}
 use Rattle.iges_parameters.specs.Rules.{Place, next_field, token_at, integer_of, short_integer, whole_of, has_size, sized, number_by, value_of, parameter_at, numbers_from, numbers_by}
 use Rattle.iges_parameters.specs.Tables.{count, list_rules}
-use Rattle.iges_parameters.specs.Lists.{trees_in, operation_with, item_with, item_at, items_from, count_at, tree_at}
+use Rattle.boolean_tree.specs.Spelling.{trees_of_items}
+use Rattle.iges_parameters.specs.Lists.{operation_with, item_with, item_at, items_from, count_at, tree_at}
 use Rattle.iges_parameters.specs.Writing.{number_of_item}
 use Rattle.iges_parameters.specs.TreeFaults.{whole_at, AreItems, IsNoItem, StopsAt, LeavesTrees, IsTreeFault}
 use Rattle.iges_parameters.proofs.ItemsSteps.{bind_ok, ok_same, not_stopped}
@@ -131,17 +132,17 @@ operand_number k = rw add-one refl
 item_number : (index : ℕ) (before : List Item) (n : ℤ) (i : Item) → item_with index before n ≡ Ok i → n ≡ number_of_item i
 unfolding item_with
 item_number index before (negsuc k) i h = operand_number k ∙ ap number_of_item (ok_same (item.Operand (k + 1)) i h)
-item_number index before (pos n) i h = operation_number index n i (not_stopped (nat_lt (length (trees_in before)) 2) _ _ i h).1
+item_number index before (pos n) i h = operation_number index n i (not_stopped (nat_lt (length (trees_of_items before)) 2) _ _ i h).1
 
 is_below : (n k : ℕ) → nat_lt n k ≡ true → n < k
 is_below n k h = grind arith
 
 -- an operation that lacks operands
-too_few : (before : List Item) (o : Operation) → AreRead before → length (trees_in before) < 2 → LacksOperands (length before + 2) (before ++ item_of o ∷ [])
+too_few : (before : List Item) (o : Operation) → AreRead before → length (trees_of_items before) < 2 → LacksOperands (length before + 2) (before ++ item_of o ∷ [])
 too_few before o read few =
     let room : length before < length (before ++ item_of o ∷ []) = omega (arith, length-append before (item_of o ∷ [])) in
-    lacks (before ++ item_of o ∷ []) (length before) (length (trees_in before)) (item_of o) o room (get_or-append_seam before (item_of o) [] (item_of o)) few
-    (in_front before (item_of o ∷ []) (length (trees_in before)) read.trees)
+    lacks (before ++ item_of o ∷ []) (length before) (length (trees_of_items before)) (item_of o) o room (get_or-append_seam before (item_of o) [] (item_of o)) few
+    (in_front before (item_of o ∷ []) (length (trees_of_items before)) read.trees)
 
 postfix_same : {A : Type 0} (index k : ℕ) → ◌≡◌ {A = Result A RowFault} (Err (fault.BadPostfix index)) (Err (fault.BadPostfix k)) → index ≡ k
 postfix_same index k h = cc
@@ -169,8 +170,8 @@ no_number before index n (inr more) = inr (inl (grind (arith, more)))
 item_wrong : (index k : ℕ) (before : List Item) (n : ℤ) → item_with index before n ≡ Err (fault.BadPostfix k) → AreRead before → index ≡ length before + 2 → (index ≡ k) × IsNoItem k before n
 unfolding item_with
 item_wrong index k before (negsuc n) h read place = cc
-item_wrong index k before (pos n) h read place = go (nat_lt (length (trees_in before)) 2) refl h where
-  lacking : index ≡ k → length (trees_in before) < 2 → IsNoItem k before (pos n)
+item_wrong index k before (pos n) h read place = go (nat_lt (length (trees_of_items before)) 2) refl h where
+  lacking : index ≡ k → length (trees_of_items before) < 2 → IsNoItem k before (pos n)
   lacking same few =
       elim (number_kind n) [
         | inl e ↦ no_number before k n (inl e)
@@ -178,8 +179,8 @@ item_wrong index k before (pos n) h read place = go (nat_lt (length (trees_in be
         | inr (inr (o, is)) ↦ inr (inr (o, is, subst (λ (m : ℕ). LacksOperands m (before ++ item_of o ∷ [])) (sym place ∙ same) (too_few before o read few)))
       ]
 
-  go : (v : Bool) → nat_lt (length (trees_in before)) 2 ≡ v → cond v (Err (fault.BadPostfix index)) (operation_with index n) ≡ Err (fault.BadPostfix k) → (index ≡ k) × IsNoItem k before (pos n)
-  go true e h = let same = postfix_same {A = Item} index k h in (same, lacking same (is_below (length (trees_in before)) 2 e))
+  go : (v : Bool) → nat_lt (length (trees_of_items before)) 2 ≡ v → cond v (Err (fault.BadPostfix index)) (operation_with index n) ≡ Err (fault.BadPostfix k) → (index ≡ k) × IsNoItem k before (pos n)
+  go true e h = let same = postfix_same {A = Item} index k h in (same, lacking same (is_below (length (trees_of_items before)) 2 e))
   go false e h = let w = operation_wrong index n k h in (w.0, no_number before k n w.1)
 
 -- ---- items one after the other
@@ -258,8 +259,8 @@ other_than_one n h e = grind (arith, nat_tests)
 
 items_blamed : (n : ℕ) (before : List Item) (most k : ℕ) (first p : Place) → Stand before n most first p → items_from n before p ≡ Err (fault.BadPostfix k) → IsBlamed k most first
 unfolding items_from
-items_blamed zero before most k first p s h = go (length (trees_in before) == 1) refl h where
-  go : (v : Bool) → (length (trees_in before) == 1) ≡ v → cond {A = Result (List Item × Place) RowFault} v (Ok (before, p)) (Err (fault.BadPostfix 1)) ≡ Err (fault.BadPostfix k) → IsBlamed k most first
+items_blamed zero before most k first p s h = go (length (trees_of_items before) == 1) refl h where
+  go : (v : Bool) → (length (trees_of_items before) == 1) ≡ v → cond {A = Result (List Item × Place) RowFault} v (Ok (before, p)) (Err (fault.BadPostfix 1)) ≡ Err (fault.BadPostfix k) → IsBlamed k most first
   go true e h = cc
   go false e h = inr (
     sym (postfix_same {A = List Item × Place} 1 k h),
@@ -269,7 +270,7 @@ items_blamed zero before most k first p s h = go (length (trees_in before) == 1)
       long = omega (arith, s.left);
       place = p;
       read = s.fields;
-      leaves = others_left before (length before) (length (trees_in before)) (omega arith) (other_than_one (length (trees_in before)) e) s.read.trees;
+      leaves = others_left before (length before) (length (trees_of_items before)) (omega arith) (other_than_one (length (trees_of_items before)) e) s.read.trees;
     },
   )
 items_blamed (suc n) before most k first p s h =

@@ -10,7 +10,8 @@ use Rattle.solid_base.specs.declared.solids.Item.TheVariants as item
 use Rattle.boolean_tree.proofs.Steps.{AreTrees, no_items, operand_next, operation_next, one_left}
 use Rattle.iges_parameters.specs.declared.faults.RowFault.TheVariants as fault
 use Rattle.iges_parameters.specs.Rules.{Place}
-use Rattle.iges_parameters.specs.Lists.{trees_in, operation_with, item_with, item_at, items_from}
+use Rattle.boolean_tree.specs.Spelling.{trees_of_items}
+use Rattle.iges_parameters.specs.Lists.{operation_with, item_with, item_at, items_from}
 use Rattle.iges_parameters.proofs.ItemsSteps.{bind_ok, ok_same, guarded, not_stopped}
 use Rattle.iges_parameters.proofs.ItemsParts.{item_parts}
 use Rattle.iges_parameters.proofs.WholeBounds.{whole_within}
@@ -21,7 +22,7 @@ use Rattle.iges_parameters.proofs.TreesAtHand.{operand_counts, operation_counts}
 -- what a number is read as
 pub data IsItemOf (before : List Item) (n : ℤ) (i : Item) : Type 0 where
   an_operand : (entity : ℕ) → n ≡ negsuc entity → i ≡ item.Operand (entity + 1) → IsItemOf before n i
-  an_operation : (o : Operation) → 2 ≤ length (trees_in before) → i ≡ item_of o → IsItemOf before n i
+  an_operation : (o : Operation) → 2 ≤ length (trees_of_items before) → i ≡ item_of o → IsItemOf before n i
 
 not_below : (n k : ℕ) → nat_lt n k ≡ false → k ≤ n
 not_below n k h = grind (arith, nat_tests)
@@ -38,9 +39,9 @@ pub item_back : (index : ℕ) (before : List Item) (n : ℤ) (i : Item) → item
 unfolding item_with
 item_back index before (negsuc k) i h = an_operand k refl (sym (ok_same (item.Operand (k + 1)) i h))
 item_back index before (pos k) i h =
-    let (few, more) = not_stopped (nat_lt (length (trees_in before)) 2) _ _ i h in
+    let (few, more) = not_stopped (nat_lt (length (trees_of_items before)) 2) _ _ i h in
     let (o, is) = operation_back index k i more in
-    an_operation o (not_below (length (trees_in before)) 2 few) is
+    an_operation o (not_below (length (trees_of_items before)) 2 few) is
 
 lawful_operation : (o : Operation) → IsLawfulItem (item_of o)
 lawful_operation union = tt
@@ -55,11 +56,11 @@ lawful_item before n i within (an_operation o two is) = rw is (lawful_operation 
 
 -- items that are whole trees, each in its range
 pub record AreRead (items : List Item) : Type 0 where
-  pub trees : AreTrees items (length items) (length (trees_in items))
+  pub trees : AreTrees items (length items) (length (trees_of_items items))
   pub lawful : AllByRecursion IsLawfulItem items
 
 pub none_read : AreRead []
-unfolding trees_in
+unfolding trees_of_items
 none_read = record { trees = no_items []; lawful = tt }
 
 all_and : (items : List Item) (i : Item) → AllByRecursion IsLawfulItem items → IsLawfulItem i → AllByRecursion IsLawfulItem (items ++ i ∷ [])
@@ -70,17 +71,17 @@ all_and (j ∷ items) i all one = (all.0, all_and items i all.1 one)
 pub in_front : (items more : List Item) (count : ℕ) → AreTrees items (length items) count → AreTrees (items ++ more) (length items) count
 in_front items more count h = record { trees = h.trees; number = h.number; spelt = take-append_seam items more ∙ sym (take-length items) ∙ h.spelt }
 
-more_trees : (before : List Item) (n : ℤ) (i : Item) → IsItemOf before n i → AreTrees before (length before) (length (trees_in before)) → AreTrees (before ++ i ∷ []) (length before + 1) (length (trees_in (before ++ i ∷ [])))
+more_trees : (before : List Item) (n : ℤ) (i : Item) → IsItemOf before n i → AreTrees before (length before) (length (trees_of_items before)) → AreTrees (before ++ i ∷ []) (length before + 1) (length (trees_of_items (before ++ i ∷ [])))
 more_trees before n i (an_operand entity e is) h =
     let room : length before < length (before ++ i ∷ []) = omega (arith, length-append before (i ∷ [])) in
-    let count : length (trees_in before) + 1 ≡ length (trees_in (before ++ i ∷ [])) = rw is (operand_counts before (entity + 1) (length (trees_in before)) refl) in
+    let count : length (trees_of_items before) + 1 ≡ length (trees_of_items (before ++ i ∷ [])) = rw is (operand_counts before (entity + 1) (length (trees_of_items before)) refl) in
     subst (AreTrees (before ++ i ∷ []) (length before + 1)) count
-    (operand_next (before ++ i ∷ []) (length before) (length (trees_in before)) i (entity + 1) room (get_or-append_seam before i [] i ∙ is) (in_front before (i ∷ []) (length (trees_in before)) h))
+    (operand_next (before ++ i ∷ []) (length before) (length (trees_of_items before)) i (entity + 1) room (get_or-append_seam before i [] i ∙ is) (in_front before (i ∷ []) (length (trees_of_items before)) h))
 more_trees before n i (an_operation o two is) h =
     let room : length before < length (before ++ i ∷ []) = omega (arith, length-append before (i ∷ [])) in
-    let count : length (trees_in before) - 1 ≡ length (trees_in (before ++ i ∷ [])) = rw is (operation_counts before o (length (trees_in before)) two refl) in
+    let count : length (trees_of_items before) - 1 ≡ length (trees_of_items (before ++ i ∷ [])) = rw is (operation_counts before o (length (trees_of_items before)) two refl) in
     subst (AreTrees (before ++ i ∷ []) (length before + 1)) count
-    (operation_next (before ++ i ∷ []) (length before) (length (trees_in before)) i o room (get_or-append_seam before i [] i ∙ is) two (in_front before (i ∷ []) (length (trees_in before)) h))
+    (operation_next (before ++ i ∷ []) (length before) (length (trees_of_items before)) i o room (get_or-append_seam before i [] i ∙ is) two (in_front before (i ∷ []) (length (trees_of_items before)) h))
 
 pub one_read : (before : List Item) (p : Place) (i : Item) (q : Place) → item_at before p ≡ Ok (i, q) → AreRead before → AreRead (before ++ i ∷ [])
 one_read before p i q h so_far =
@@ -88,7 +89,7 @@ one_read before p i q h so_far =
     let item = item_back p.index before is.number i is.item in
     let long : length before + 1 ≡ length (before ++ i ∷ []) = omega (arith, length-append before (i ∷ [])) in
     record {
-      trees = subst (λ (at : ℕ). AreTrees (before ++ i ∷ []) at (length (trees_in (before ++ i ∷ [])))) long (more_trees before is.number i item so_far.trees);
+      trees = subst (λ (at : ℕ). AreTrees (before ++ i ∷ []) at (length (trees_of_items (before ++ i ∷ [])))) long (more_trees before is.number i item so_far.trees);
       lawful = all_and before i so_far.lawful (lawful_item before is.number i (whole_within p.index is.token is.number is.whole) item);
     }
 
@@ -104,12 +105,12 @@ pub record IsTree (count : ℕ) (items : List Item) : Type 0 where
 pub items_lawful : (n : ℕ) (before : List Item) (p : Place) (items : List Item) (q : Place) → items_from n before p ≡ Ok (items, q) → AreRead before → IsTree (length before + n) items
 unfolding items_from
 items_lawful zero before p items q h so_far =
-    let (one, last) = guarded (length (trees_in before) == 1) (fault.BadPostfix 1) _ _ h in
+    let (one, last) = guarded (length (trees_of_items before) == 1) (fault.BadPostfix 1) _ _ h in
     let same : before ≡ items = ap (λ (x : List Item × Place). x.0) last in
     subst (IsTree (length before + 0)) same (record {
       long = omega arith;
       lawful = so_far.lawful;
-      tree = one_left before (length before) (length (trees_in before)) (omega arith) (is_one (length (trees_in before)) one) so_far.trees;
+      tree = one_left before (length before) (length (trees_of_items before)) (omega arith) (is_one (length (trees_of_items before)) one) so_far.trees;
     })
 items_lawful (suc n) before p items q h so_far =
     let (i, first, more) = bind_ok (item_at before p) _ _ h in

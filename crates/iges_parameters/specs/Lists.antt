@@ -1,9 +1,9 @@
 -- Boolean trees and assemblies: records whose first parameter says how many items follow.
-use Rattle.std.specs.Prelude.{ℕ, zero, suc, ◌+◌, List, [], ◌∷◌, ◌++◌, cond, ◌==◌, nat_lt, fold, length, replicate, Result, Ok, Err, ℤ, pos, negsuc, unsigned_abs}
+use Rattle.std.specs.Prelude.{ℕ, zero, suc, ◌+◌, List, [], ◌∷◌, ◌++◌, cond, ◌==◌, nat_lt, length, replicate, Result, Ok, Err, ℤ, pos, negsuc, unsigned_abs}
 use Rattle.solid_base.specs.declared.solids.Item.{Item}
 use Rattle.solid_base.specs.declared.solids.Item.TheVariants as item
 use Rattle.solid_base.specs.declared.solids.Placed.{Placed}
-use Rattle.solid_base.specs.Trees.{Operation, union, intersection, difference, Tree, operand, combination}
+use Rattle.boolean_tree.specs.Spelling.{trees_of_items}
 use Rattle.iges_parameters.specs.declared.faults.RowFault.{RowFault}
 use Rattle.iges_parameters.specs.declared.faults.RowFault.TheVariants as fault
 use Rattle.solid_base.specs.Outcomes.{◌>>=◌}
@@ -16,23 +16,6 @@ count_at p = numbers_by list_rules p >>= λ ns. Ok (unsigned_abs (parameter ns.0
 
 -- ---- Boolean trees (IGES 5.3, type 180)
 
--- the trees after an operation, the last one first: it takes the last two
-abbrev pub with_operation : Operation → List Tree → List Tree
-with_operation o [] = []
-with_operation o (b ∷ []) = b ∷ []
-with_operation o (b ∷ a ∷ ts) = combination o a b ∷ ts
-
--- the trees after an item, the last one first
-abbrev pub with_item : List Tree → Item → List Tree
-with_item ts (item.Operand entity) = operand entity ∷ ts
-with_item ts item.Join = with_operation union ts
-with_item ts item.Meet = with_operation intersection ts
-with_item ts item.Less = with_operation difference ts
-
--- the whole trees that items in post-order are, the last one first
-unfoldable pub trees_in : List Item → List Tree
-trees_in items = fold with_item [] items
-
 -- the operation with this number: 1 is the union, 2 the intersection, 3 the difference
 abbrev pub operation_with : ℕ → ℕ → Result Item RowFault
 operation_with index n =
@@ -41,7 +24,7 @@ operation_with index n =
 -- the item with this number after these: below 0 it is an operand, else an operation, before which two trees stand at least
 unfoldable pub item_with : ℕ → List Item → ℤ → Result Item RowFault
 item_with index before (negsuc n) = Ok (item.Operand (n + 1))
-item_with index before (pos n) = cond (nat_lt (length (trees_in before)) 2) (Err (fault.BadPostfix index)) (operation_with index n)
+item_with index before (pos n) = cond (nat_lt (length (trees_of_items before)) 2) (Err (fault.BadPostfix index)) (operation_with index n)
 
 -- the next item after these, and the place after it
 unfoldable pub item_at : List Item → Place → Result (Item × Place) RowFault
@@ -49,7 +32,7 @@ item_at before p = token_at p >>= λ t. whole_of p.index t.0 >>= λ n. item_with
 
 -- so many items more after these, and the place after them; after the last one tree is left, else the number of items is at fault
 unfoldable pub items_from : ℕ → List Item → Place → Result (List Item × Place) RowFault
-items_from zero before p = cond (length (trees_in before) == 1) (Ok (before, p)) (Err (fault.BadPostfix 1))
+items_from zero before p = cond (length (trees_of_items before) == 1) (Ok (before, p)) (Err (fault.BadPostfix 1))
 items_from (suc n) before p = item_at before p >>= λ i. items_from n (before ++ i.0 ∷ []) i.1
 
 -- the items of a tree, and the place after it

@@ -7,7 +7,8 @@ ghost use Rattle.solid_base.specs.Ranges.{IsLawfulItem};
 ghost use Rattle.solid_base.specs.Outcomes.{Gives};
 ghost use Rattle.iges_parameters.specs.Faults.{GivesOrMemory};
 ghost use Rattle.iges_parameters.specs.Rules.{Moves};
-ghost use Rattle.iges_parameters.specs.Lists.{trees_in, item_with, item_at, items_from, tree_at};
+ghost use Rattle.boolean_tree.specs.Spelling.{trees_of_items};
+ghost use Rattle.iges_parameters.specs.Lists.{item_with, item_at, items_from, tree_at};
 
 use crate::faults::RowFault;
 use crate::reading::counts::count;
@@ -26,10 +27,11 @@ const NUMBER_OF_ITEMS: u32 = 1;
 fn item_with(index: u32, trees: u32, number: i128) -> Result<(Item, u32), RowFault>
     requires trees { trees < 2 ^ 32 - 1 }
     requires within { unsigned_abs number ≤ 9999999 }
-    ensures value { (before : List Item) → trees ≡ length (trees_in before) →
+    ensures value { (before : List Item) → trees ≡ length (trees_of_items before) →
         Gives (λ x. x.0) result (item_with index before number) }
-    ensures trees { IfOk result (λ x. (before : List Item) → trees ≡ length (trees_in before) →
-        x.1 ≡ length (trees_in (before ++ x.0 ∷ []))) }
+    ensures trees { IfOk result (λ x. (before : List Item) →
+        trees ≡ length (trees_of_items before) →
+        x.1 ≡ length (trees_of_items (before ++ x.0 ∷ []))) }
     ensures within { IfOk result (λ x. x.1 ≤ trees + 1) }
 {
     if number < 0 {
@@ -52,10 +54,11 @@ fn item_with(index: u32, trees: u32, number: i128) -> Result<(Item, u32), RowFau
 fn next_item(parameters: &mut Parameters, trees: u32) -> Result<(Item, u32), RowFault>
     requires index { parameters.now.index < 2 ^ 32 - 1 }
     requires trees { trees < 2 ^ 32 - 1 }
-    ensures value { (before : List Item) → trees ≡ length (trees_in before) →
+    ensures value { (before : List Item) → trees ≡ length (trees_of_items before) →
         Gives (λ x. (x.0, parameters.new)) result (item_at before parameters.old) }
-    ensures trees { IfOk result (λ x. (before : List Item) → trees ≡ length (trees_in before) →
-        x.1 ≡ length (trees_in (before ++ x.0 ∷ []))) }
+    ensures trees { IfOk result (λ x. (before : List Item) →
+        trees ≡ length (trees_of_items before) →
+        x.1 ≡ length (trees_of_items (before ++ x.0 ∷ []))) }
     ensures within { IfOk result (λ x. x.1 ≤ trees + 1) }
     ensures moves { IfOk result (λ x. Moves 1 parameters.old parameters.new) }
 {

@@ -1,12 +1,12 @@
 use Rattle.std.proofs.Common.{◌≡◌, ◌-◌, refl, sym, ◌∙◌, arith}
 use Rattle.std.proofs.lemmas.Result.{err_from_is_err_and}
-use Rattle.iges_parameters.specs.Lists.{trees_in}
+use Rattle.boolean_tree.specs.Spelling.{trees_of_items}
 use Rattle.iges_parameters.proofs.ItemsLoop.{goes_on, ends, is_done, is_left}
 use Rattle.iges_parameters.proofs.TreesLawful.{tree_lawful}
 use Rattle.iges_parameters.proofs.reading.trees.items.Goals as goal
 
 pub loop-init : goal.loop-init
-unfolding trees_in
+unfolding trees_of_items
 loop-init c =
     let all : c.args.count - 0 ≡ c.args.count = omega arith in
     rw (c.new-items.ensures, all) (record { moved = (omega arith, omega arith); bound = omega arith; at_hand = refl; so_far = refl })
