@@ -7,8 +7,6 @@ use Rattle.solid_base.specs.declared.solids.Row.{Row}
 use Rattle.solid_base.specs.declared.solids.Row.TheVariants as row
 use Rattle.iges_file.specs.declared.faults.FileFault.{FileFault}
 use Rattle.iges_file.specs.Files.{Reads, Refused}
-use Rattle.iges_file.proofs.DirectoryFacts.{few_pairs}
-use Rattle.iges_file.proofs.RowLoops.{entities_counted}
 use Rattle.iges_file.proofs.OneOutcome.{one_of_both, reads_once, first_fault, never_both}
 use Rattle.solid_top.specs.declared.checks.Tallies.{Tallies}
 use Rattle.solid_top.specs.declared.faults.TopFault.TheVariants as fault
@@ -18,11 +16,6 @@ use Rattle.solid_top.specs.declared.statuses.Status.TheVariants as status
 use Rattle.solid_top.specs.Checks.{with_row, tallies_from, IsChecked, check_text}
 use Rattle.solid_top.specs.Replay.{IsRefusal}
 use Rattle.solid_top.specs.TopFaults.{refused_text}
-
--- a file has at most 100,000 entities
-pub few_rows : (bytes : List ℕ) (model : Model) (end : ℕ) → Reads bytes model end → length model.rows ≤ 100000
-few_rows bytes model end h =
-    omega (arith, entities_counted model.comma model.semi h.cards.params h.pairs model.rows h.entities, few_pairs (length h.cards.params) h.cards.directory h.pairs h.directory)
 
 -- the rows from a place on are the row there and those after it
 pub tallies_next : (t : Tallies) (rows : List Entity) (at : ℕ) (e : Entity) → slice_get rows at ≡ Some e
@@ -65,12 +58,6 @@ checked_once bytes status.Memory t a b h k = absurd h
 checked_once bytes status.ReadFault t a b h k = absurd h
 checked_once bytes status.WriteFault t a b h k = absurd h
 checked_once bytes status.TooLong t a b h k = absurd h
-
--- what is answered is the one answer
-pub checked_only : (bytes : List ℕ) (result : Result Output AllocError) → IfOk result (λ out. IsChecked bytes out.status out.text)
-    → (s : Status) (text : List ℕ) → IsChecked bytes s text → IfOk result (λ out. (out.status ≡ s) × (out.text ≡ text))
-checked_only bytes (Err e) h s text k = tt
-checked_only bytes (Ok out) h s text k = checked_once bytes out.status s out.text text h k
 
 -- a refusal with the first fault is what is answered
 pub refused_checked : (bytes : List ℕ) (f : FileFault) (result : Result Output AllocError) → Refused bytes f

@@ -5,7 +5,7 @@ use Rattle.solid_base.proofs.Pairs.{same_pair}
 use Rattle.solid_top.specs.declared.questions.PointQuestion.{PointQuestion}
 use Rattle.solid_top.specs.FormReading.{point_at}
 use Rattle.solid_top.specs.Points.{IsPointLine}
-use Rattle.solid_top.proofs.AnswerLaws.{point_shorter}
+use Rattle.solid_top.proofs.ScriptLaws.{point_shorter}
 use Rattle.solid_top.proofs.PointLaws.{point_again, point_takes}
 
 -- bytes ask questions, of which the first has this place

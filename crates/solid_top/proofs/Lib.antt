@@ -11,5 +11,6 @@ pub mod ReplayLaws
 pub mod RootLaws
 pub mod RowLaws
 pub mod RunLaws
+pub mod ScriptLaws
 pub mod StepLaws
 pub mod Strips

@@ -1,5 +1,5 @@
 -- A replay has one answer.
-use Rattle.std.proofs.Common.{◌≡◌, ◌⊎◌, inl, inr, ℕ, ◌+◌, ◌≤◌, List, [], ◌∷◌, ◌++◌, length, drop, codes, decimal, Result, Ok, Err, IfOk, ap, sym, subst, refl, ◌∙◌, arith, append-nil, append_assoc, length-append}
+use Rattle.std.proofs.Common.{◌≡◌, ◌⊎◌, inl, inr, ℕ, ◌≤◌, List, [], ◌∷◌, ◌++◌, length, drop, codes, decimal, Result, Ok, Err, IsErrAnd, IfOk, OnOk, ap, sym, subst, refl, ◌∙◌, arith, append-nil, append_assoc, length-append}
 use Rattle.std.proofs.lemmas.Fmt.{decimal_digit}
 use Rattle.std.specs.declared.alloc.AllocError.{AllocError}
 use Rattle.solid_base.specs.declared.entities.Model.{Model}
@@ -14,15 +14,15 @@ use Rattle.solid_top.specs.declared.questions.PointQuestion.{PointQuestion}
 use Rattle.solid_top.specs.declared.replay.Output.{Output}
 use Rattle.solid_top.specs.declared.statuses.Status.{Status}
 use Rattle.solid_top.specs.declared.statuses.Status.TheVariants as status
-use Rattle.solid_top.specs.Answers.{AreAnswers, replay_text, most_evaluations}
+use Rattle.solid_top.specs.Answers.{Answer, AreAnswers, all_evaluations, most_evaluations, replay_text}
 use Rattle.solid_top.specs.FormReading.{point_at}
-use Rattle.solid_eval.specs.Ticks.{RisesUpTo, most_count}
+use Rattle.solid_base.specs.Ledgers.{counted, RisesUpTo}
 use Rattle.solid_top.specs.Models.{Asks, IsReplay, IsNotBuilt}
 use Rattle.solid_top.specs.Output.{session_text, output_text}
 use Rattle.solid_top.specs.Points.{IsPointLine}
-use Rattle.solid_top.specs.Replay.{IsReplayed}
+use Rattle.solid_top.specs.Replay.{CountsReplay, IsReplayed}
 use Rattle.solid_top.specs.TopFaults.{refused_text}
-use Rattle.solid_top.proofs.AnswerLaws.{nothing_read}
+use Rattle.solid_top.proofs.ScriptLaws.{nothing_read}
 use Rattle.solid_top.proofs.Deciding.{AsksFrom, asks_or_not}
 use Rattle.solid_top.proofs.OneAnswer.{answers_once, answers_some}
 use Rattle.solid_top.proofs.PointLaws.{point_reader}
@@ -68,7 +68,7 @@ done_once : (bytes text other : List ℕ) → IsReplayed bytes status.Done text 
 done_once bytes text other (model, questions, answers, h, a, t) (model', questions', answers', h', a', t') =
     let (same, lines) = replay_once bytes model model' questions questions' h h' in
     let moved : AreAnswers model'.rows questions' answers = subst (λ (q : List PointQuestion). AreAnswers model'.rows q answers) lines (subst (λ (m : Model). AreAnswers m.rows questions answers) same a) in
-    t ∙ ap (λ (all : List (List ℕ)). replay_text all) (answers_once model'.rows questions' answers answers' moved a') ∙ sym t'
+    t ∙ ap (λ (all : List Answer). replay_text all) (answers_once model'.rows questions' answers answers' moved a') ∙ sym t'
 
 -- a replay of bytes answers one status and one text
 pub replayed_once : (bytes : List ℕ) (s t : Status) (a b : List ℕ) → IsReplayed bytes s a → IsReplayed bytes t b → (s ≡ t) × (a ≡ b)
@@ -110,25 +110,6 @@ replayed_some bytes = bytes_replayed bytes (one_of_both bytes)
 
 -- ---- what code gives
 
-pub replayed_only : (r : Result Output AllocError) (bytes : List ℕ) (s : Status) (text : List ℕ) → IfOk r (λ out. IsReplayed bytes out.status out.text) → IsReplayed bytes s text
-    → IfOk r (λ out. (out.status ≡ s) × (out.text ≡ text))
-replayed_only (Ok out) bytes s text h k = replayed_once bytes out.status s out.text text h k
-replayed_only (Err e) bytes s text h k = tt
-
--- how often primitives were evaluated
-pub replayed_ticks : (r : Result Output AllocError) (bytes : List ℕ) (old new : ℕ) (model : Model) (questions : List PointQuestion) → IfOk r (λ out. IsReplayed bytes out.status out.text)
-    → IfOk r (λ out. out.status ≡ status.Done → (model : Model) × (questions : List PointQuestion) × IsReplay bytes model questions × RisesUpTo old new (most_evaluations model.rows questions))
-    → IsReplay bytes model questions → old ≤ most_count → IfOk r (λ out. new ≤ old + most_evaluations model.rows questions)
-replayed_ticks (Ok out) bytes old new model questions h counted is least =
-    let (answers, are) = answers_some model.rows questions in
-    let (done, text) = replayed_once bytes out.status status.Done out.text (replay_text answers) h (model, questions, answers, is, are, refl) in
-    let (model', questions', is', ticks) = counted done in
-    let (same, lines) = replay_once bytes model' model questions' questions is' is in
-    let most : most_evaluations model'.rows questions' ≡ most_evaluations model.rows questions = ap (λ (m : Model). most_evaluations m.rows questions') same ∙ ap (λ (q : List PointQuestion). most_evaluations model.rows q) lines in
-    let (first, second, third) = ticks least in
-    omega (arith, third, most)
-replayed_ticks (Err e) bytes old new model questions h counted is least = tt
-
 -- the bytes are refused as a file
 pub file_refused : (r : Result Output AllocError) (bytes : List ℕ) (f : FileFault) → Refused bytes f → IfOk r (λ out. out.status ≡ status.Refused) → IfOk r (λ out. out.text ≡ refused_text (fault.File f))
     → IfOk r (λ out. IsReplayed bytes out.status out.text)
@@ -142,10 +123,60 @@ not_built (Ok out) bytes model end reads wrong s t =
     subst (λ (v : Status). IsReplayed bytes v out.text) (sym s) (inr (record { model = model; end = end; reads = reads; wrong = wrong }, t))
 not_built (Err e) bytes model end reads wrong s t = tt
 
--- a refused replay isn't done
-pub not_done : (P : Type 0) (r : Result Output AllocError) → IfOk r (λ out. out.status ≡ status.Refused) → IfOk r (λ out. out.status ≡ status.Done → P)
-not_done P (Ok out) s = λ d. (let bad : status.Refused ≡ status.Done = sym s ∙ d in cc)
-not_done P (Err e) s = tt
+-- what always holds holds on Ok
+on_ok_always : {T E P : Type 0} (result : Result T E) → P → OnOk result P
+on_ok_always (Ok x) p = p
+on_ok_always (Err e) p = tt
+
+-- ---- how evaluations are counted
+
+-- where the bytes are refused
+pub counts_none : {T E : Type 0} (bytes : List ℕ) (count : ℕ) (result : Result T E)
+    → ((model : Model) (questions : List PointQuestion) → IsReplay bytes model questions → ⊥) → CountsReplay bytes count count result
+counts_none bytes count result other = record {
+  never_falls = omega arith;
+  exact = λ model questions answers is are. absurd (other model questions is);
+  most = λ model questions is. (omega arith, omega arith);
+  none = λ other. refl;
+}
+
+-- bytes that are refused as a file ask no points, nor does a file after which other lines stand
+pub refused_asks : (bytes : List ℕ) (f : FileFault) → Refused bytes f → (model : Model) (questions : List PointQuestion) → IsReplay bytes model questions → ⊥
+refused_asks bytes f refused model questions is = never_both bytes model is.end f is.reads refused
+
+pub wrong_asks : (bytes : List ℕ) (model : Model) (end : ℕ) → Reads bytes model end → ((questions : List PointQuestion) → Asks bytes end questions → ⊥)
+    → (other : Model) (asked : List PointQuestion) → IsReplay bytes other asked → ⊥
+wrong_asks bytes model end reads wrong other asked is = replay_not_wrong bytes other asked is (record { model = model; end = end; reads = reads; wrong = wrong })
+
+module _ (bytes : List ℕ) (model : Model) (questions : List PointQuestion) (is : IsReplay bytes model questions) (old new : ℕ)
+    (most : RisesUpTo old new (most_evaluations model.rows questions)) where
+  same_most : (other : Model) (asked : List PointQuestion) → IsReplay bytes other asked → RisesUpTo old new (most_evaluations other.rows asked)
+  same_most other asked h =
+      let (same, lines) = replay_once bytes model other questions asked is h in
+      subst (λ (q : List PointQuestion). RisesUpTo old new (most_evaluations other.rows q)) lines
+      (subst (λ (m : Model). RisesUpTo old new (most_evaluations m.rows questions)) same most)
+
+  -- where memory was wanting for an answer
+  pub counts_most : {T E : Type 0} (result : Result T E) (Is : E → Type 0) → IsErrAnd result Is → CountsReplay bytes old new result
+  counts_most (Ok x) Is failed = absurd failed
+  counts_most (Err e) Is failed = record {
+    never_falls = most.0;
+    exact = λ other asked answers h are. tt;
+    most = same_most;
+    none = λ other. absurd (other model questions is);
+  }
+
+  -- where all is answered
+  pub counts_exact : {T E : Type 0} (result : Result T E) (answers : List Answer) → AreAnswers model.rows questions answers → new ≡ counted old (all_evaluations answers)
+      → CountsReplay bytes old new result
+  counts_exact result answers are ticked = record {
+    never_falls = most.0;
+    exact = λ other asked others h k. (let (same, lines) = replay_once bytes model other questions asked is h in
+        let moved : AreAnswers other.rows asked answers = subst (λ (q : List PointQuestion). AreAnswers other.rows q answers) lines (subst (λ (m : Model). AreAnswers m.rows questions answers) same are) in
+        on_ok_always result (ticked ∙ ap (λ (all : List Answer). counted old (all_evaluations all)) (answers_once other.rows asked answers others moved k)));
+    most = same_most;
+    none = λ other. absurd (other model questions is);
+  }
 
 -- ---- rows
 

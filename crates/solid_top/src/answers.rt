@@ -1,19 +1,24 @@
-ghost use Rattle.std.specs.Prelude.{◌≡◌, ◌≤◌, ◌^◌, ◌+◌, ◌++◌, ℕ, List, decimal, length, map, OnOk, IfOk, IfSome, IfNone};
+ghost use Rattle.std.specs.Prelude.{◌≡◌, ◌++◌, List, decimal, map, OnOk};
 ghost use Rattle.std.specs.List.{flat_map, AllByRecursion};
 ghost use Rattle.solid_base.specs.Graph.{weight_of};
+ghost use Rattle.solid_base.specs.Ledgers.{counted, RisesUpTo};
 ghost use Rattle.solid_base.specs.Range.{far, IsPointWithin};
 ghost use Rattle.solid_base.specs.Ranges.{IsLawfulRow};
-ghost use Rattle.solid_base.specs.References.{row_at};
-ghost use Rattle.solid_base.specs.Series.{Spells};
-ghost use Rattle.entity_graph.specs.FirstFaults.{IsNumber};
-ghost use Rattle.solid_top.specs.declared.questions.PointQuestion.{PointQuestion};
-ghost use Rattle.solid_top.specs.Answers.{class_words, IsSolidAnswer, IsRowAnswer, IsAnswer, AreAnswers, reply_of, most_evaluations};
-ghost use Rattle.solid_eval.specs.Ticks.{RisesUpTo};
-ghost use Rattle.solid_top.specs.Ledgers.{IsLater};
+ghost use Rattle.solid_base.specs.References.{HasNumber, row_at};
+ghost use Rattle.solid_top.specs.Answers.{
+  Answer,
+  AreAnswers,
+  IsAnswer,
+  IsGiven,
+  IsRowAnswer,
+  IsSolidAnswer,
+  all_evaluations,
+  class_words,
+  most_evaluations,
+  reply_of,
+};
 ghost use Rattle.solid_top.specs.Output.{reply_text};
-ghost use Rattle.solid_top.specs.Points.{IsPointLine};
 
-use crate::points::point_line;
 use crate::questions::PointQuestion;
 use entity_graph::Graph;
 use fixed_enclosure::Box3;
@@ -52,10 +57,13 @@ fn push_solid_answer<L: Ledger>(
 ) -> Result<(), AllocError>
     requires graph { graph.now ≡ rows.now }
     requires lawful { AllByRecursion (λ e. IsLawfulRow e.row) rows.now }
-    requires number { IsNumber rows.now question.now.entity }
+    requires number { HasNumber rows.now question.now.entity }
     requires point { IsPointWithin far question.now.at }
-    ensures answer { OnOk result ((words : List ℕ) × IsSolidAnswer rows.now question.now.entity question.now.at words × (out.new ≡ out.old ++ words)) }
-    ensures ledger { RisesUpTo (L.count leaves.old) (L.count leaves.new) (weight_of rows.now question.now.entity) }
+    ensures answer { OnOk result (IsGiven
+        (IsSolidAnswer rows.now question.now.entity question.now.at)
+        out.old out.new (L.count leaves.old) (L.count leaves.new)) }
+    ensures ledger { RisesUpTo (L.count leaves.old) (L.count leaves.new)
+        (weight_of rows.now question.now.entity) }
 {
     match graph.opaque(question.entity) {
         0 => {
@@ -84,8 +92,11 @@ fn push_row_answer<L: Ledger>(
     requires lawful { AllByRecursion (λ e. IsLawfulRow e.row) rows.now }
     requires row { row_at rows.now question.now.entity ≡ row.now }
     requires point { IsPointWithin far question.now.at }
-    ensures answer { OnOk result ((words : List ℕ) × IsRowAnswer rows.now question.now.entity question.now.at row.now words × (out.new ≡ out.old ++ words)) }
-    ensures ledger { RisesUpTo (L.count leaves.old) (L.count leaves.new) (weight_of rows.now question.now.entity) }
+    ensures answer { OnOk result (IsGiven
+        (IsRowAnswer rows.now question.now.entity question.now.at row.now)
+        out.old out.new (L.count leaves.old) (L.count leaves.new)) }
+    ensures ledger { RisesUpTo (L.count leaves.old) (L.count leaves.new)
+        (weight_of rows.now question.now.entity) }
 {
     match row {
         Row::Null => push_number(out, b"REFUSED NoEntity ", question.entity),
@@ -106,8 +117,10 @@ fn push_answer<L: Ledger>(
     requires graph { graph.now ≡ rows.now }
     requires lawful { AllByRecursion (λ e. IsLawfulRow e.row) rows.now }
     requires point { IsPointWithin far question.now.at }
-    ensures answer { OnOk result ((words : List ℕ) × IsAnswer rows.now question.now words × (out.new ≡ out.old ++ words)) }
-    ensures ledger { RisesUpTo (L.count leaves.old) (L.count leaves.new) (weight_of rows.now question.now.entity) }
+    ensures answer { OnOk result (IsGiven (IsAnswer rows.now question.now)
+        out.old out.new (L.count leaves.old) (L.count leaves.new)) }
+    ensures ledger { RisesUpTo (L.count leaves.old) (L.count leaves.new)
+        (weight_of rows.now question.now.entity) }
 {
     match rows.row(question.entity) {
         Some(row) => push_row_answer(alloc, out, rows, graph, question, row, leaves),
@@ -115,6 +128,7 @@ fn push_answer<L: Ledger>(
     }
 }
 
+/// Adds the reply to a question: its version, its answer and LF.
 fn push_reply<L: Ledger>(
     alloc: Global,
     out: &mut Bytes,
@@ -126,43 +140,38 @@ fn push_reply<L: Ledger>(
     requires graph { graph.now ≡ rows.now }
     requires lawful { AllByRecursion (λ e. IsLawfulRow e.row) rows.now }
     requires point { IsPointWithin far question.now.at }
-    ensures reply { OnOk result ((words : List ℕ) × IsAnswer rows.now question.now words × (out.new ≡ out.old ++ reply_text (reply_of words))) }
-    ensures ledger { RisesUpTo (L.count leaves.old) (L.count leaves.new) (weight_of rows.now question.now.entity) }
+    ensures reply { OnOk result ((answer : Answer) × IsAnswer rows.now question.now answer ×
+        (out.new ≡ out.old ++ reply_text (reply_of answer)) ×
+        (L.count leaves.new ≡ counted (L.count leaves.old) answer.evaluations)) }
+    ensures ledger { RisesUpTo (L.count leaves.old) (L.count leaves.new)
+        (weight_of rows.now question.now.entity) }
 {
     out.extend_from_slice(b"0 ")?;
     push_answer(alloc, out, rows, graph, question, leaves)?;
     out.extend_from_slice(b"\n")
 }
 
-/// Adds the replies to the lines of a script, and tells how many they are. None where the script is
-/// not made of point lines; then what was added is of no use.
+/// Adds the replies to questions, in order.
 pub fn push_replies<L: Ledger>(
     alloc: Global,
     out: &mut Bytes,
     rows: &Rows,
     graph: &Graph,
-    script: &[u8],
+    questions: &[PointQuestion],
     leaves: &mut L,
-) -> Result<Option<u32>, AllocError>
+) -> Result<(), AllocError>
     requires graph { graph.now ≡ rows.now }
     requires lawful { AllByRecursion (λ e. IsLawfulRow e.row) rows.now }
-    requires size { length script.now ≤ 2 ^ 25 }
-    ensures found { IfOk result (λ found. IfSome found (λ count. (questions : List PointQuestion) × (answers : List (List ℕ)) ×
-        Spells IsPointLine 0 script.now questions × AreAnswers rows.now questions answers × (count ≡ length answers) ×
+    requires points { AllByRecursion (λ question. IsPointWithin far question.at) questions.now }
+    ensures replies { OnOk result ((answers : List Answer) ×
+        AreAnswers rows.now questions.now answers ×
         (out.new ≡ out.old ++ flat_map reply_text (map reply_of answers)) ×
-        RisesUpTo (L.count leaves.old) (L.count leaves.new) (most_evaluations rows.now questions))) }
-    ensures none { IfOk result (λ found. IfNone found ((questions : List PointQuestion) → Spells IsPointLine 0 script.now questions → ⊥)) }
-    ensures later { IsLater (L.count leaves.old) (L.count leaves.new) }
+        (L.count leaves.new ≡ counted (L.count leaves.old) (all_evaluations answers))) }
+    ensures ledger { RisesUpTo (L.count leaves.old) (L.count leaves.new)
+        (most_evaluations rows.now questions.now) }
 {
-    let mut count = 0;
-    let mut rest = script;
-    while !rest.is_empty() {
-        let Some((question, after)) = point_line(rest) else {
-            return Ok(None);
-        };
-        push_reply(alloc, out, rows, graph, &question, leaves)?;
-        rest = after;
-        count += 1;
+    for question in questions {
+        push_reply(alloc, out, rows, graph, question, leaves)?;
     }
-    Ok(Some(count))
+    Ok(())
 }

@@ -1,12 +1,20 @@
-ghost use Rattle.std.specs.Prelude.{◌≡◌, ◌≤◌, ◌<◌, ◌+◌, ◌^◌, ◌++◌, ℕ, List, decimal, length, IfOk, OnOk};
-ghost use Rattle.solid_top.specs.declared.statuses.Status.{Status};
-ghost use Rattle.solid_top.specs.Checks.{IsChecked, check_text, global_words, globals_line, rows_line, tallies_of, with_row};
+ghost use Rattle.std.specs.Prelude.{◌≡◌, ◌≤◌, ◌<◌, ◌+◌, ◌^◌, ◌++◌, decimal, length, IfOk, OnOk};
+ghost use Rattle.solid_top.specs.Checks.{
+  IsChecked,
+  check_text,
+  global_words,
+  globals_line,
+  rows_line,
+  tallies_of,
+  with_row,
+};
 
 use crate::faults::of_file;
-use crate::replay::{Output, graph_of, refused};
+use crate::replay::{Output, refused};
 use crate::roots::push_roots;
 use crate::statuses::Status;
-use iges_file::read_model;
+use entity_graph::Graph;
+use iges_file::read_file;
 use solid_base::{Bytes, Model, Row, Rows, Token, push_decimal};
 use std::alloc::{AllocError, Global};
 
@@ -115,15 +123,15 @@ fn push_globals(out: &mut Bytes, model: &Model) -> Result<(), AllocError>
 }
 
 /// The text of a check.
-fn check_text(alloc: Global, model: &Model) -> Result<Bytes, AllocError>
-    requires { length model.now.rows ≤ 100000 }
+fn check_text(alloc: Global, model: &Model, graph: &Graph) -> Result<Bytes, AllocError>
+    requires few { length model.now.rows ≤ 100000 }
+    requires graph { graph.now ≡ model.now.rows }
     ensures { IfOk result (λ text. text ≡ check_text model.now) }
 {
-    let graph = graph_of(alloc, &model.rows)?;
     let mut text = Bytes::new(alloc);
     push_rows(&mut text, &model.rows)?;
     push_globals(&mut text, model)?;
-    push_roots(alloc, &mut text, &model.rows, &graph)?;
+    push_roots(alloc, &mut text, &model.rows, graph)?;
     text.extend_from_slice(b"END\n")?;
     Ok(text)
 }
@@ -137,14 +145,12 @@ fn check_text(alloc: Global, model: &Model) -> Result<Bytes, AllocError>
 /// when out of memory.
 pub fn check_run(alloc: Global, bytes: &[u8]) -> Result<Output, AllocError>
     requires { length bytes.now ≤ 2 ^ 25 }
-    ensures checked { IfOk result (λ out. IsChecked bytes.now out.status out.text) }
-    ensures only { (s : Status) (text : List ℕ) → IsChecked bytes.now s text →
-        IfOk result (λ out. (out.status ≡ s) × (out.text ≡ text)) }
+    ensures { IfOk result (λ out. IsChecked bytes.now out.status out.text) }
 {
-    match read_model(alloc, bytes) {
-        Ok((model, _)) => Ok(Output {
+    match read_file(alloc, bytes) {
+        Ok(read) => Ok(Output {
             status: Status::Done,
-            text: check_text(alloc, &model)?,
+            text: check_text(alloc, &read.model, &read.graph)?,
         }),
         Err(fault) => refused(alloc, of_file(fault)?),
     }

@@ -1,4 +1,4 @@
-ghost use Rattle.std.specs.Prelude.{◌≡◌, ◌↔◌, IsTrue, IfOk};
+ghost use Rattle.std.specs.Prelude.{◌≡◌, ◌↔◌, IsTrue, IsErr, IfOk};
 ghost use Rattle.solid_top.specs.TopFaults.{IsOfText, top_number, top_words};
 
 use iges_file::FileFault;
@@ -53,7 +53,8 @@ fn has_words(fault: &FileFault) -> bool
 
 /// The fault of a file as that of a run. Out of memory is an error of its own.
 pub fn of_file(fault: FileFault) -> Result<TopFault, AllocError>
-    ensures { IfOk result (λ top. (top ≡ TopFault.File fault) × IsOfText top) }
+    ensures fault { IfOk result (λ top. (top ≡ TopFault.File fault) × IsOfText top) }
+    ensures words { IsErr result → IsOfText (TopFault.File fault) → ⊥ }
 {
     if has_words(&fault) {
         Ok(TopFault::File(fault))

@@ -16,6 +16,7 @@ mod questions;
 mod replay;
 mod roots;
 mod scan;
+mod scripts;
 mod statuses;
 mod streams;
 

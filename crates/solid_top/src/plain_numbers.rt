@@ -5,6 +5,7 @@ ghost use Rattle.solid_top.specs.PlainReading.{step_of, decimals_at, fraction_at
 ghost use Rattle.solid_top.specs.Reading.{Gives};
 
 use crate::scan::digits;
+use solid_base::STEPS_IN_UNIT;
 
 /// Whether a number has to have a point.
 #[derive(Clone, Copy, Debug, PartialEq, Eq)]
@@ -12,9 +13,6 @@ pub enum DecimalPoint {
     Optional,
     Required,
 }
-
-/// The steps in one unit.
-const UNIT: u64 = 1_000_000_000_000;
 
 /// The greatest magnitude, in units.
 const FAR_UNITS: u64 = 100_000;
@@ -73,8 +71,8 @@ fn magnitude(rule: DecimalPoint, bytes: &[u8]) -> Option<(u64, &[u8])>
         return None;
     }
     let (decimals, rest) = fraction(rule, whole.rest)?;
-    let steps = whole.number * UNIT + decimals;
-    if steps > FAR_UNITS * UNIT {
+    let steps = whole.number * STEPS_IN_UNIT + decimals;
+    if steps > FAR_UNITS * STEPS_IN_UNIT {
         None
     } else {
         Some((steps, rest))

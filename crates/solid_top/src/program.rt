@@ -1,11 +1,10 @@
-ghost use Rattle.std.specs.Prelude.{◌≡◌, ◌↔◌, ◌≢◌, ◌⊎◌, ℕ, List, Some, IfOk, map, ◌<◌, ◌≤◌, ◌^◌, length};
+ghost use Rattle.std.specs.Prelude.{◌≡◌, ◌↔◌, ◌≢◌, ◌⊎◌, ℕ, List, Some, true, is_some, IfOk, map, ◌≤◌, ◌^◌, length};
 ghost use Rattle.std.specs.Io.KnownBytes.{Keeps};
-ghost use Rattle.solid_io.specs.Causes.{Rose};
-ghost use Rattle.solid_top.specs.declared.commands.Command.{Command};
+ghost use Rattle.solid_io.specs.Causes.{SameKnown};
 ghost use Rattle.solid_top.specs.declared.statuses.Status.{Status};
-ghost use Rattle.solid_top.specs.Commands.{Answers, IsCommand, Names, too_long_text};
-ghost use Rattle.solid_top.specs.Run.{Ends, Finishes, GoesWell, IsSteady, IsWritten};
-ghost use Rattle.solid_top.specs.Streams.{most_bytes};
+ghost use Rattle.solid_top.specs.Commands.{Answers, IsCommand};
+ghost use Rattle.solid_top.specs.Run.{EndsDue, Finishes, IsDue, IsRun};
+ghost use Rattle.solid_top.specs.Streams.{IsLongRead, most_bytes};
 
 use crate::checks::check_run;
 use crate::commands::{Command, command_of};
@@ -27,9 +26,7 @@ const TOO_LONG: &[u8] = b"TOO LONG\n";
 /// What a command answers to an input of at most 2^25 bytes.
 fn answer(alloc: Global, command: Command, bytes: &[u8]) -> Result<Output, AllocError>
     requires { length bytes.now ≤ 2 ^ 25 }
-    ensures answers { IfOk result (λ out. Answers command bytes.now out.status out.text) }
-    ensures only { (s : Status) (text : List ℕ) → Answers command bytes.now s text →
-        IfOk result (λ out. (out.status ≡ s) × (out.text ≡ text)) }
+    ensures { IfOk result (λ out. Answers command bytes.now out.status out.text) }
 {
     match command {
         Command::Check => check_run(alloc, bytes),
@@ -39,8 +36,9 @@ fn answer(alloc: Global, command: Command, bytes: &[u8]) -> Result<Output, Alloc
 
 /// Writes the text of a status.
 fn finish<K: Sink>(sink: &mut K, status: Status, text: &[u8]) -> Status
-    ensures finishes { Finishes (K.held sink.old) (K.held sink.new) (K.faults sink.old) (K.faults sink.new) status text.now result }
-    ensures sink { IsSteady (K.held sink.old) (K.held sink.new) (K.faults sink.old) (K.faults sink.new) }
+    ensures finishes { Finishes (K.held sink.old) (K.held sink.new)
+        (K.faults sink.old) (K.faults sink.new) status text.now result }
+    ensures known { SameKnown (K.held sink.old) (K.held sink.new) }
 {
     match write_text(sink, text) {
         Ok(()) => status,
@@ -51,11 +49,12 @@ fn finish<K: Sink>(sink: &mut K, status: Status, text: &[u8]) -> Status
 /// Answers an input that was read, and writes the answer.
 fn answer_input<K: Sink>(alloc: Global, command: Command, bytes: &[u8], sink: &mut K) -> Status
     requires { length bytes.now ≤ most_bytes }
-    ensures answered { ((result ≡ Status.Memory) × Keeps (K.held sink.old) (K.held sink.new)) ⊎ ((s : Status) × (text : List ℕ) × Answers command bytes.now s text ×
-        Finishes (K.held sink.old) (K.held sink.new) (K.faults sink.old) (K.faults sink.new) s text result) }
-    ensures only { (Rose (K.faults sink.old) (K.faults sink.new) → ⊥) → (s : Status) (text : List ℕ) → Answers command bytes.now s text →
-        IsWritten (K.held sink.old) (K.held sink.new) s text result }
-    ensures sink { IsSteady (K.held sink.old) (K.held sink.new) (K.faults sink.old) (K.faults sink.new) }
+    ensures answered { ((result ≡ Status.Memory) × (K.faults sink.new ≡ K.faults sink.old)
+        × Keeps (K.held sink.old) (K.held sink.new))
+        ⊎ ((s : Status) × (text : List ℕ) × Answers command bytes.now s text
+        × Finishes (K.held sink.old) (K.held sink.new)
+        (K.faults sink.old) (K.faults sink.new) s text result) }
+    ensures known { SameKnown (K.held sink.old) (K.held sink.new) }
 {
     match answer(alloc, command, bytes) {
         Ok(output) => finish(sink, output.status, output.text.as_slice()),
@@ -70,14 +69,9 @@ fn run_words<S: Source, K: Sink>(
     source: &mut S,
     sink: &mut K,
 ) -> Status
-    ensures ends { Ends (map (λ word. word.now) words.now) (S.left source.old) (S.left source.new) (S.faults source.old) (S.faults source.new)
+    ensures { IsRun (map (λ word. word.now) words.now)
+        (S.left source.old) (S.left source.new) (S.faults source.old) (S.faults source.new)
         (K.held sink.old) (K.held sink.new) (K.faults sink.old) (K.faults sink.new) result }
-    ensures answered { GoesWell (map (λ word. word.now) words.now) (S.faults source.old) (S.faults source.new) (K.faults sink.old) (K.faults sink.new) →
-        (bytes : List ℕ) → S.left source.old ≡ Some bytes → length bytes ≤ most_bytes →
-        (c : Command) → Names (map (λ word. word.now) words.now) c → (s : Status) (text : List ℕ) → Answers c bytes s text →
-        IsWritten (K.held sink.old) (K.held sink.new) s text result }
-    ensures source { IsSteady (S.left source.old) (S.left source.new) (S.faults source.old) (S.faults source.new) }
-    ensures sink { IsSteady (K.held sink.old) (K.held sink.new) (K.faults sink.old) (K.faults sink.new) }
 {
     let Some(command) = command_of(words) else {
         return finish(sink, Status::Usage, USAGE);
@@ -92,11 +86,11 @@ fn run_words<S: Source, K: Sink>(
 
 /// Runs a command: its words are the command line without the program's name, and the commands that are
 /// built yet are `check` and `replay`. Reads the source to its end, answers, and writes the answer to the
-/// sink.
+/// sink. The first read or write that fails ends the run.
 ///
 /// The status is `Usage` where the words are no command, and then nothing is read; `ReadFault` or
-/// `WriteFault` only where a call on the source or the sink failed; `TooLong` where more than 2^25 bytes
-/// were read; `Memory` when out of memory; else that of the answer, `Done` or `Refused`.
+/// `WriteFault` exactly where a call on the source or the sink failed; `TooLong` where more than 2^25
+/// bytes were read; `Memory` when out of memory; else that of the answer, `Done` or `Refused`.
 pub fn run<R: Threads + Wait + Sync, S: Source, K: Sink, G: Gate>(
     _rt: &R,
     alloc: Global,
@@ -105,31 +99,27 @@ pub fn run<R: Threads + Wait + Sync, S: Source, K: Sink, G: Gate>(
     sink: &mut K,
     _gate: &G,
 ) -> Status
-    ensures ends { Ends (map (λ word. word.now) words.now) (S.left source.old) (S.left source.new) (S.faults source.old) (S.faults source.new)
+    ensures run { IsRun (map (λ word. word.now) words.now)
+        (S.left source.old) (S.left source.new) (S.faults source.old) (S.faults source.new)
         (K.held sink.old) (K.held sink.new) (K.faults sink.old) (K.faults sink.new) result }
 
-    // What is told stays told, and the counts of failures never fall.
-    ensures source { IsSteady (S.left source.old) (S.left source.new) (S.faults source.old) (S.faults source.new) }
-    ensures sink { IsSteady (K.held sink.old) (K.held sink.new) (K.faults sink.old) (K.faults sink.new) }
-
     // Usage comes exactly where the words are no command, unless a write failed; then nothing is read.
-    ensures usage { result ≢ Status.WriteFault → ((result ≡ Status.Usage) ↔ (IsCommand (map (λ word. word.now) words.now) → ⊥)) }
-    ensures unread { (IsCommand (map (λ word. word.now) words.now) → ⊥) → Keeps (S.left source.old) (S.left source.new) }
+    ensures usage { result ≢ Status.WriteFault →
+        ((result ≡ Status.Usage) ↔ (IsCommand (map (λ word. word.now) words.now) → ⊥)) }
+    ensures unread { (IsCommand (map (λ word. word.now) words.now) → ⊥) →
+        Keeps (S.left source.old) (S.left source.new) }
 
-    ensures read_fault { result ≡ Status.ReadFault →
-        Rose (S.faults source.old) (S.faults source.new) × Keeps (K.held sink.old) (K.held sink.new) }
-    ensures write_fault { result ≡ Status.WriteFault → Rose (K.faults sink.old) (K.faults sink.new) }
-    ensures memory { result ≡ Status.Memory → Keeps (K.held sink.old) (K.held sink.new) }
+    ensures unwritten { (result ≡ Status.Memory) ⊎ (result ≡ Status.ReadFault) →
+        Keeps (K.held sink.old) (K.held sink.new) }
 
-    // Where no call failed and the source tells its bytes: more than 2^25 of them are too long; to others what the command answers
-    // is written. It answers all bytes, with one status and one text (program_laws).
-    ensures too_long { GoesWell (map (λ word. word.now) words.now) (S.faults source.old) (S.faults source.new) (K.faults sink.old) (K.faults sink.new) →
-        (bytes : List ℕ) → S.left source.old ≡ Some bytes → most_bytes < length bytes →
-        IsWritten (K.held sink.old) (K.held sink.new) Status.TooLong too_long_text result }
-    ensures answered { GoesWell (map (λ word. word.now) words.now) (S.faults source.old) (S.faults source.new) (K.faults sink.old) (K.faults sink.new) →
-        (bytes : List ℕ) → S.left source.old ≡ Some bytes → length bytes ≤ most_bytes →
-        (c : Command) → Names (map (λ word. word.now) words.now) c → (s : Status) (text : List ℕ) → Answers c bytes s text →
-        IsWritten (K.held sink.old) (K.held sink.new) s text result }
+    // TooLong comes exactly where more than 2^25 bytes were read, unless a write failed.
+    ensures too_long { is_some (S.left source.old) ≡ true → result ≢ Status.WriteFault →
+        ((result ≡ Status.TooLong) ↔ IsLongRead (S.left source.old) (S.left source.new)) }
+
+    // To all words and bytes one status and one text are due (program_laws).
+    ensures due { (bytes : List ℕ) → S.left source.old ≡ Some bytes → (s : Status) (text : List ℕ) →
+        IsDue (map (λ word. word.now) words.now) bytes s text →
+        EndsDue (K.held sink.old) (K.held sink.new) s text result }
 {
     run_words(alloc, words, source, sink)
 }

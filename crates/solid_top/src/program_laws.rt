@@ -3,6 +3,7 @@ ghost use Rattle.solid_top.specs.declared.commands.Command.{Command};
 ghost use Rattle.solid_top.specs.declared.statuses.Status.{Status};
 ghost use Rattle.solid_top.specs.Checks.{IsChecked};
 ghost use Rattle.solid_top.specs.Commands.{Names};
+ghost use Rattle.solid_top.specs.Run.{IsDue};
 
 /// A law on all bytes: a check answers them, with one status and one text.
 pub fn one_check()
@@ -14,4 +15,10 @@ pub fn one_check()
 /// A law on all words: they are one command at most.
 pub fn one_command()
     ensures { (words : List (List ℕ)) (a b : Command) → Names words a → Names words b → a ≡ b }
+{}
+
+/// A law on all words and bytes: one status and one text at most are due to them.
+pub fn one_end()
+    ensures { (words : List (List ℕ)) (bytes : List ℕ) (s t : Status) (a b : List ℕ) →
+        IsDue words bytes s a → IsDue words bytes t b → (s ≡ t) × (a ≡ b) }
 {}

@@ -1,26 +1,28 @@
-ghost use Rattle.std.specs.Prelude.{◌≡◌, ◌≤◌, ◌+◌, ◌^◌, ◌++◌, [], ◌∷◌, ℕ, List, length, min, IsTrue, ◌↔◌, IfOk, IfSome, IfNone, OnOk};
+ghost use Rattle.std.specs.Prelude.{◌≡◌, ◌≤◌, ◌^◌, ◌++◌, [], ◌∷◌, List, length, IfOk, OnOk};
 ghost use Rattle.std.specs.List.{flat_map, AllByRecursion};
-ghost use Rattle.solid_base.specs.Graph.{AreSound};
+ghost use Rattle.solid_base.specs.Ledgers.{counted, RisesUpTo};
+ghost use Rattle.solid_base.specs.Range.{far, IsPointWithin};
 ghost use Rattle.solid_base.specs.Ranges.{IsLawfulRow};
-ghost use Rattle.solid_base.specs.Series.{Spells};
-ghost use Rattle.solid_base.specs.declared.entities.Model.{Model};
 ghost use Rattle.solid_base.specs.declared.replies.Reply.{Reply};
-ghost use Rattle.solid_top.specs.declared.questions.PointQuestion.{PointQuestion};
 ghost use Rattle.solid_top.specs.declared.statuses.Status.{Status};
-ghost use Rattle.solid_top.specs.Answers.{AreAnswers, replay_text, most_evaluations};
-ghost use Rattle.solid_eval.specs.Ticks.{RisesUpTo};
-ghost use Rattle.solid_top.specs.Ledgers.{IsLater};
-ghost use Rattle.solid_top.specs.Models.{IsReplay};
+ghost use Rattle.solid_top.specs.Answers.{
+  Answer,
+  AreAnswers,
+  all_evaluations,
+  most_evaluations,
+  replay_text,
+};
 ghost use Rattle.solid_top.specs.Output.{reply_text, session_text, output_text};
-ghost use Rattle.solid_top.specs.Points.{IsPointLine};
-ghost use Rattle.solid_top.specs.Replay.{IsReplayed};
+ghost use Rattle.solid_top.specs.Replay.{CountsReplay, IsReplayed};
 ghost use Rattle.solid_top.specs.TopFaults.{IsOfText, refused_text};
 
 use crate::answers::push_replies;
 use crate::faults::{TopFault, of_file};
+use crate::questions::PointQuestion;
+use crate::scripts::read_questions;
 use crate::statuses::Status;
 use entity_graph::Graph;
-use iges_file::read_model;
+use iges_file::read_file;
 use solid_base::{Bytes, Ledger, Rows, push_decimal};
 use std::alloc::{AllocError, Global};
 
@@ -33,8 +35,8 @@ pub struct Output {
 
 /// The number of a session, of its replies, and these. Nothing for a session without a line.
 fn push_session(out: &mut Bytes, session: u32, count: u32, replies: &[u8]) -> Result<(), AllocError>
-    ensures { OnOk result ((all : List Reply) → count ≡ length all → replies.now ≡ flat_map reply_text all →
-        out.new ≡ out.old ++ session_text session all) }
+    ensures { OnOk result ((all : List Reply) → count ≡ length all →
+        replies.now ≡ flat_map reply_text all → out.new ≡ out.old ++ session_text session all) }
 {
     if count == 0 {
         return Ok(());
@@ -49,8 +51,8 @@ fn push_session(out: &mut Bytes, session: u32, count: u32, replies: &[u8]) -> Re
 
 /// The text of a run without commits in which session 1 alone has lines.
 fn replay_output(alloc: Global, count: u32, replies: &[u8]) -> Result<Bytes, AllocError>
-    ensures { IfOk result (λ text. (all : List Reply) → count ≡ length all → replies.now ≡ flat_map reply_text all →
-        text ≡ output_text [] ([] ∷ all ∷ [])) }
+    ensures { IfOk result (λ text. (all : List Reply) → count ≡ length all →
+        replies.now ≡ flat_map reply_text all → text ≡ output_text [] ([] ∷ all ∷ [])) }
 {
     let mut text = Bytes::new(alloc);
     text.extend_from_slice(b"LOG 0\n")?;
@@ -75,68 +77,33 @@ pub fn refused(alloc: Global, fault: TopFault) -> Result<Output, AllocError>
     })
 }
 
-/// The graph of rows whose references obey the rules: there is no fault in them, so that memory alone can
-/// be wanting.
-pub fn graph_of(alloc: Global, rows: &Rows) -> Result<Graph, AllocError>
-    requires { length rows.now ≤ 100000 }
-    ensures graph { IfOk result (λ graph. graph ≡ rows.now) }
-    ensures sound { IfOk result (λ _. AreSound rows.now) }
-{
-    Graph::check(alloc, rows).map_err(|_| AllocError)
-}
-
-/// The text of the answers to a script over rows whose references obey the rules. None where the script
-/// is not made of point lines.
-fn replay_rows<L: Ledger>(
+/// The text of the answers to questions.
+fn answers_text<L: Ledger>(
     alloc: Global,
     rows: &Rows,
-    script: &[u8],
+    graph: &Graph,
+    questions: &[PointQuestion],
     leaves: &mut L,
-) -> Result<Option<Bytes>, AllocError>
-    requires few { length rows.now ≤ 100000 }
+) -> Result<Bytes, AllocError>
+    requires graph { graph.now ≡ rows.now }
     requires lawful { AllByRecursion (λ e. IsLawfulRow e.row) rows.now }
-    requires size { length script.now ≤ 2 ^ 25 }
-    ensures found { IfOk result (λ found. IfSome found (λ text. (questions : List PointQuestion) × (answers : List (List ℕ)) ×
-        Spells IsPointLine 0 script.now questions × AreAnswers rows.now questions answers × (text ≡ replay_text answers) ×
-        RisesUpTo (L.count leaves.old) (L.count leaves.new) (most_evaluations rows.now questions))) }
-    ensures none { IfOk result (λ found. IfNone found ((questions : List PointQuestion) → Spells IsPointLine 0 script.now questions → ⊥)) }
-    ensures later { IsLater (L.count leaves.old) (L.count leaves.new) }
+    requires points { AllByRecursion (λ question. IsPointWithin far question.at) questions.now }
+    requires few { length questions.now ≤ 2 ^ 25 }
+    ensures text { IfOk result (λ text. (answers : List Answer) ×
+        AreAnswers rows.now questions.now answers × (text ≡ replay_text answers) ×
+        (L.count leaves.new ≡ counted (L.count leaves.old) (all_evaluations answers))) }
+    ensures ledger { RisesUpTo (L.count leaves.old) (L.count leaves.new)
+        (most_evaluations rows.now questions.now) }
 {
-    let graph = graph_of(alloc, rows)?;
     let mut replies = Bytes::new(alloc);
-    match push_replies(alloc, &mut replies, rows, &graph, script, leaves)? {
-        Some(count) => Ok(Some(replay_output(alloc, count, replies.as_slice())?)),
-        None => Ok(None),
-    }
+    push_replies(alloc, &mut replies, rows, graph, questions, leaves)?;
+    replay_output(alloc, questions.len() as u32, replies.as_slice())
 }
 
-fn replay_bytes<L: Ledger>(
-    alloc: Global,
-    bytes: &[u8],
-    leaves: &mut L,
-) -> Result<Output, AllocError>
-    requires { length bytes.now ≤ 2 ^ 25 }
-    ensures replayed { IfOk result (λ out. IsReplayed bytes.now out.status out.text) }
-    ensures counted { IfOk result (λ out. out.status ≡ Status.Done → (model : Model) × (questions : List PointQuestion) × IsReplay bytes.now model questions ×
-        RisesUpTo (L.count leaves.old) (L.count leaves.new) (most_evaluations model.rows questions)) }
-    ensures later { IsLater (L.count leaves.old) (L.count leaves.new) }
-{
-    let (model, end) = match read_model(alloc, bytes) {
-        Ok(read) => read,
-        Err(fault) => return refused(alloc, of_file(fault)?),
-    };
-    match replay_rows(alloc, &model.rows, &bytes[end..], leaves)? {
-        Some(text) => Ok(Output {
-            status: Status::Done,
-            text,
-        }),
-        None => refused(alloc, TopFault::NotBuilt),
-    }
-}
-
-/// Answers the points after a file: a line of session 1 for each. Bytes that are no file are refused
-/// with their first fault, and a file after which stand lines that ask no points with NotBuilt. A point
-/// counts as at most so many evaluations as its entity weighs. Out of memory is an error.
+/// Answers the points after a file, of at most 2^25 bytes in all: a line of session 1 for each. Bytes
+/// that are no file are refused with their first fault, and a file after which stand lines that ask no
+/// points with NotBuilt; then nothing is evaluated. The ledger counts the evaluations of primitives.
+/// AllocError comes when out of memory.
 pub fn replay_run<L: Ledger>(
     alloc: Global,
     bytes: &[u8],
@@ -144,10 +111,19 @@ pub fn replay_run<L: Ledger>(
 ) -> Result<Output, AllocError>
     requires { length bytes.now ≤ 2 ^ 25 }
     ensures replayed { IfOk result (λ out. IsReplayed bytes.now out.status out.text) }
-    ensures only { (s : Status) (text : List ℕ) → IsReplayed bytes.now s text → IfOk result (λ out. (out.status ≡ s) × (out.text ≡ text)) }
-    ensures ledger { (model : Model) (questions : List PointQuestion) → IsReplay bytes.now model questions → L.count leaves.old ≤ u64.MAX →
-        IfOk result (λ out. L.count leaves.new ≤ L.count leaves.old + most_evaluations model.rows questions) }
-    ensures later { L.count leaves.old ≤ u64.MAX → L.count leaves.old ≤ L.count leaves.new }
+    ensures ledger { CountsReplay bytes.now (L.count leaves.old) (L.count leaves.new) result }
 {
-    replay_bytes(alloc, bytes, leaves)
+    let read = match read_file(alloc, bytes) {
+        Ok(read) => read,
+        Err(fault) => return refused(alloc, of_file(fault)?),
+    };
+    let Some(questions) = read_questions(alloc, &bytes[read.end..])? else {
+        return refused(alloc, TopFault::NotBuilt);
+    };
+    let questions = questions.as_slice();
+    let text = answers_text(alloc, &read.model.rows, &read.graph, questions, leaves)?;
+    Ok(Output {
+        status: Status::Done,
+        text,
+    })
 }

@@ -1,7 +1,7 @@
-ghost use Rattle.std.specs.Prelude.{◌≡◌, ◌≤◌, ◌<◌, ◌+◌, ◌*◌, ◌++◌, ◌||◌, ◌&&◌, ◌==◌, not, if◌then◌else◌, [], ℕ, false, get_or, length, IfOk, OnOk};
+ghost use Rattle.std.specs.Prelude.{◌≡◌, ◌≤◌, ◌<◌, ◌+◌, ◌*◌, ◌++◌, ◌||◌, ◌&&◌, ◌==◌};
+ghost use Rattle.std.specs.Prelude.{not, if◌then◌else◌, [], ℕ, false, get_or, length, IfOk, OnOk};
 ghost use Rattle.std.specs.List.{list_any};
-ghost use Rattle.solid_base.specs.Graph.{AreSound};
-ghost use Rattle.entity_graph.specs.FirstFaults.{IsNumber};
+ghost use Rattle.solid_base.specs.References.{HasNumber};
 ghost use Rattle.solid_top.specs.Checks.{is_named, is_solid, root_line, root_lines};
 
 use entity_graph::Graph;
@@ -12,7 +12,8 @@ use std::alloc::{AllocError, Global};
 fn mark(named: &mut [bool], numbers: &[u32])
     ensures length { length named.new ≡ length named.old }
     ensures marks { (i : ℕ) → i < length named.old →
-        get_or named.new i false ≡ (get_or named.old i false || list_any (λ n. n == 2 * i + 1) numbers.now) }
+        get_or named.new i false ≡
+        (get_or named.old i false || list_any (λ n. n == 2 * i + 1) numbers.now) }
 {
     for number in numbers {
         let place = (*number / 2) as usize;
@@ -48,10 +49,10 @@ fn is_solid(row: &Row) -> bool
 
 /// Adds the number, the weight and the depth of a solid.
 fn push_line(out: &mut Bytes, graph: &Graph, number: u32) -> Result<(), AllocError>
-    requires number { IsNumber graph.now number }
-    requires sound { AreSound graph.now }
+    requires { HasNumber graph.now number }
     ensures { OnOk result (out.new ≡ out.old ++ root_line graph.now number) }
 {
+    graph.obeys();
     out.extend_from_slice(b"ROOT ")?;
     push_decimal(out, number)?;
     out.extend_from_slice(b" ")?;
@@ -69,9 +70,9 @@ fn push_root(
     row: &Row,
     named: bool,
 ) -> Result<(), AllocError>
-    requires number { IsNumber graph.now number }
-    requires sound { AreSound graph.now }
-    ensures { OnOk result (out.new ≡ out.old ++ (if is_solid row.now && not named then root_line graph.now number else [])) }
+    requires { HasNumber graph.now number }
+    ensures { OnOk result (out.new ≡
+        out.old ++ (if is_solid row.now && not named then root_line graph.now number else [])) }
 {
     if is_solid(row) && !named {
         push_line(out, graph, number)?;
@@ -88,7 +89,6 @@ pub fn push_roots(
 ) -> Result<(), AllocError>
     requires few { length rows.now ≤ 100000 }
     requires graph { graph.now ≡ rows.now }
-    requires sound { AreSound rows.now }
     ensures { OnOk result (out.new ≡ out.old ++ root_lines rows.now) }
 {
     let named = named_places(alloc, rows)?;

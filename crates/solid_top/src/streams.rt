@@ -1,7 +1,7 @@
 ghost use Rattle.std.specs.Prelude.{◌≡◌, ◌≤◌, length, IfOk, IfErr, OnOk, OnErr};
 ghost use Rattle.std.specs.Io.KnownBytes.{Appends, Consumes, IsAtEnd};
-ghost use Rattle.solid_io.specs.Causes.{HasCause, SameTold};
-ghost use Rattle.solid_top.specs.Streams.{AppendsFront, Stopped, most_bytes};
+ghost use Rattle.solid_io.specs.Causes.{SameKnown, count_after};
+ghost use Rattle.solid_top.specs.Streams.{AppendsFront, Stopped, count_after_reading, most_bytes};
 
 use solid_base::Bytes;
 use solid_io::{Failed, Sink, Source};
@@ -51,15 +51,15 @@ fn buffer(alloc: Global, size: usize) -> Result<Vec<u8>, AllocError>
     Vec::from_elem(alloc, 0, size)
 }
 
-/// Reads the source to its end, in pieces of 64 KiB. After an error the source has lost what was read.
+/// Reads the source to its end, in pieces of 64 KiB. The first read that fails ends it, and so does the
+/// first piece with which there are more than 2^25 bytes. After an error the source has lost what was read.
 pub fn read_input<S: Source>(alloc: Global, source: &mut S) -> Result<Bytes, ReadError>
     ensures fits { IfOk result (λ bytes. length bytes ≤ most_bytes) }
     ensures bytes { IfOk result (λ bytes. Consumes (S.left source.old) (S.left source.new) bytes) }
     ensures end { OnOk result (IsAtEnd (S.left source.new)) }
-    ensures err { IfErr result (Stopped
-        (S.left source.old) (S.left source.new) (S.faults source.old) (S.faults source.new)) }
-    ensures later { S.faults source.old ≤ S.faults source.new }
-    ensures told { SameTold (S.left source.old) (S.left source.new) }
+    ensures err { IfErr result (Stopped (S.left source.old) (S.left source.new)) }
+    ensures cause { S.faults source.new ≡ count_after_reading (S.faults source.old) result }
+    ensures known { SameKnown (S.left source.old) (S.left source.new) }
 {
     let mut bytes = Bytes::new(alloc);
     let mut piece = buffer(alloc, PIECE_BYTES)?;
@@ -68,19 +68,20 @@ pub fn read_input<S: Source>(alloc: Global, source: &mut S) -> Result<Bytes, Rea
         if count == 0 {
             return Ok(bytes);
         }
-        bytes.extend_from_slice(&piece[..count])?;
-        if bytes.len() > MOST_BYTES {
+        if count > MOST_BYTES - bytes.len() {
             return Err(ReadError::TooLong);
         }
+        bytes.extend_from_slice(&piece[..count])?;
     }
 }
 
-/// Writes the whole text, in as few pieces as the sink takes. After an error a front of it was written.
+/// Writes the whole text, in as few pieces as the sink takes. The first write that fails ends it; then a
+/// front of the text was written.
 pub fn write_text<K: Sink>(sink: &mut K, text: &[u8]) -> Result<(), Failed>
     ensures ok { OnOk result (Appends (K.held sink.old) (K.held sink.new) text.now) }
     ensures err { OnErr result (AppendsFront (K.held sink.old) (K.held sink.new) text.now) }
-    ensures cause { HasCause (K.faults sink.old) (K.faults sink.new) result }
-    ensures told { SameTold (K.held sink.old) (K.held sink.new) }
+    ensures cause { K.faults sink.new ≡ count_after (K.faults sink.old) result }
+    ensures known { SameKnown (K.held sink.old) (K.held sink.new) }
 {
     let mut at = 0;
     while at < text.len() {

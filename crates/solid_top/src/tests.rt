@@ -1,7 +1,7 @@
 //! Whole runs on worked inputs: each status once for each command, and each allocating call with ample memory.
 use crate::replay_tests::{Record, file_of};
-use crate::{Status, TopFault, check_run, replay_run, run};
-use solid_base::{Bytes, Numbers, Tally};
+use crate::{Status, TopFault, check_run, run};
+use solid_base::{Bytes, Numbers};
 use solid_io::{MemSink, MemSource, OpenGate};
 use std::alloc::{AllocError, Global};
 use std::process::Abort;
@@ -83,7 +83,7 @@ fn expect_check(
 }
 
 #[test]
-fn files_are_told(rt: HostRuntime) -> Result<(), AllocError> {
+fn files_are_reported(rt: HostRuntime) -> Result<(), AllocError> {
     let alloc = rt.alloc();
     let none = "MODEL 1 READ 1 KEPT 0 NULL 0\nSCALE - UNITS - VERSION -\nROOT 1 1 1\nEND\n";
     let some = "MODEL 4 READ 1 KEPT 2 NULL 1\nSCALE 1.5 UNITS 2 VERSION 11\nROOT 1 1 1\nEND\n";
@@ -99,7 +99,7 @@ fn files_are_told(rt: HostRuntime) -> Result<(), AllocError> {
 }
 
 #[test]
-fn roots_are_told(rt: HostRuntime) -> Result<(), AllocError> {
+fn roots_are_reported(rt: HostRuntime) -> Result<(), AllocError> {
     let alloc = rt.alloc();
     let (ball, along) = ("158,1.;", "124,1.,0.,0.,10.,0.,1.,0.,0.,0.,0.,1.,0.;");
     let cases: [(&[Record], &str, &str); 6] = [
@@ -161,7 +161,7 @@ fn roots_are_told(rt: HostRuntime) -> Result<(), AllocError> {
 }
 
 #[test]
-fn faults_are_told(rt: HostRuntime) -> Result<(), AllocError> {
+fn faults_are_reported(rt: HostRuntime) -> Result<(), AllocError> {
     let alloc = rt.alloc();
     let cases = [
         (0, "Two columns short.", "MODEL REFUSED ShortLine 1\n"),
@@ -194,46 +194,6 @@ fn faults_are_told(rt: HostRuntime) -> Result<(), AllocError> {
     }
     let words = TopFault::NotBuilt.write_fault(alloc)?;
     assert_eq!(rt; words.as_slice(), b"NotBuilt".as_slice());
-    Ok(())
-}
-
-#[test]
-fn points_are_answered(rt: HostRuntime) -> Result<(), AllocError> {
-    let alloc = rt.alloc();
-    let cases = [
-        ("@1 point 1 0 0 0", "LOG 0\n@1 1\n0 INSIDE\nEND\n"),
-        ("@1 point 1 1 0 0", "LOG 0\n@1 1\n0 UNDECIDED 1\nEND\n"),
-        (
-            "@1 point 1 1.000000000001 0 0",
-            "LOG 0\n@1 1\n0 OUTSIDE\nEND\n",
-        ),
-        (
-            "@1 point 1 0 -0.999999999999 0",
-            "LOG 0\n@1 1\n0 INSIDE\nEND\n",
-        ),
-        (
-            "@1 point 3 0 0 0",
-            "LOG 0\n@1 1\n0 REFUSED NoEntity 3\nEND\n",
-        ),
-        (
-            "@1 point 1 0 0 0\n@1 point 1 0 2 0",
-            "LOG 0\n@1 2\n0 INSIDE\n0 OUTSIDE\nEND\n",
-        ),
-        (
-            "@1 point 002 0 0 0",
-            "LOG 0\n@1 1\n0 REFUSED NoEntity 2\nEND\n",
-        ),
-    ];
-    for (line, want) in cases {
-        let mut input = text(alloc, &SPHERE)?;
-        input.extend_from_slice(line.as_bytes())?;
-        input.push(b'\n')?;
-        assert!(rt; input.len() < 1000);
-        let mut leaves = Tally { count: 0 };
-        let output = replay_run(alloc, input.as_slice(), &mut leaves)?;
-        assert_eq!(rt; output.status, Status::Done);
-        assert_eq!(rt; output.text.as_slice(), want.as_bytes(), "{line}");
-    }
     Ok(())
 }
 

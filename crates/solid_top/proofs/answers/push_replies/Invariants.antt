@@ -1,14 +1,13 @@
-use Rattle.std.proofs.Common.{◌≤◌, ◌+◌, length}
-use Rattle.solid_top.specs.Ledgers.{IsLater}
+use Rattle.std.proofs.Common.{◌≤◌, ◌+◌, drop, take}
+use Rattle.solid_top.specs.Answers.{most_evaluations}
 use Rattle.solid_top.proofs.AnswerLaws.{Replied}
 use Rattle.solid_top.proofs.answers.push_replies.Given as goal
 
-abbrev pub invariant-loop-rest : goal.invariant-loop-rest
-invariant-loop-rest g l = record {
-  replied : Replied l.rows l.script l.rest l.fn.out l.out l.count (g.L.Ledger.count l.fn.leaves) (g.L.Ledger.count l.leaves);
-  later : IsLater (g.L.Ledger.count l.fn.leaves) (g.L.Ledger.count l.leaves);
-  within : l.count + length l.rest ≤ length l.script;
+-- the questions so far are answered; what the others take at most and what was taken is within the whole
+abbrev pub invariant-loop-question : goal.invariant-loop-question
+invariant-loop-question g l = record {
+  replied : Replied l.rows (take l.question-index l.questions) l.fn.out l.out (g.L.Ledger.count l.fn.leaves) (g.L.Ledger.count l.leaves);
+  later : g.L.Ledger.count l.fn.leaves ≤ g.L.Ledger.count l.leaves;
+  most : g.L.Ledger.count l.leaves + most_evaluations l.rows (drop l.question-index l.questions)
+      ≤ g.L.Ledger.count l.fn.leaves + most_evaluations l.rows l.questions;
 }
-
-abbrev pub decreases-loop-rest : goal.decreases-loop-rest
-decreases-loop-rest g l = length l.rest

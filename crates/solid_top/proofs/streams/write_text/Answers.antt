@@ -11,6 +11,6 @@ loop-at-preserved g c =
     record {
       within = omega (arith, length-drop at text, c.in_ok-at.ensures.bound);
       written = rw take-add (Appends-trans _ _ _ _ _ c.loop-at.invariant.written (rw take_rest at c.in_ok-at.ensures.bytes));
-      told = c.loop-at.invariant.told ∙ c.in_ok-at.ensures.told;
-      later = omega (arith, c.in_ok-at.ensures.cause.later);
+      known = c.loop-at.invariant.known ∙ c.in_ok-at.ensures.known;
+      count = c.in_ok-at.ensures.cause ∙ c.loop-at.invariant.count;
     }

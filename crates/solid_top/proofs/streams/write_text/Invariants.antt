@@ -1,14 +1,14 @@
-use Rattle.std.proofs.Common.{◌≤◌, ◌-◌, length, take}
+use Rattle.std.proofs.Common.{◌≡◌, ◌≤◌, ◌-◌, length, take}
 use Rattle.std.specs.Io.KnownBytes.{Appends}
-use Rattle.solid_io.specs.Causes.{SameTold}
+use Rattle.solid_io.specs.Causes.{SameKnown}
 use Rattle.solid_top.proofs.streams.write_text.Given as goal
 
 abbrev pub invariant-loop-at : goal.invariant-loop-at
 invariant-loop-at g l = record {
   within : l.at ≤ length l.text;
   written : Appends (g.K.Sink.held l.fn.sink) (g.K.Sink.held l.sink) (take l.at l.text);
-  told : SameTold (g.K.Sink.held l.fn.sink) (g.K.Sink.held l.sink);
-  later : g.K.Sink.faults l.fn.sink ≤ g.K.Sink.faults l.sink;
+  known : SameKnown (g.K.Sink.held l.fn.sink) (g.K.Sink.held l.sink);
+  count : g.K.Sink.faults l.sink ≡ g.K.Sink.faults l.fn.sink;
 }
 
 abbrev pub decreases-loop-at : goal.decreases-loop-at
