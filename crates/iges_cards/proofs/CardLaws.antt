@@ -14,7 +14,8 @@ use Rattle.solid_base.specs.Spelling.{is_blank}
 use Rattle.iges_cards.specs.Lines.{HasColumns}
 use Rattle.iges_cards.specs.Numbers.{IsNumber, number_in, is_same}
 use Rattle.iges_cards.specs.Sections.{letter_of, section_of, may_follow, count_of, lines_in, one_more, AreFew}
-use Rattle.iges_cards.proofs.NumberLaws.{all_test, test_all, number_again, number_takes, number_below}
+use Rattle.solid_base.proofs.Columns.{all_test, test_all}
+use Rattle.iges_cards.proofs.NumberLaws.{number_again, number_takes, number_below}
 use Rattle.iges_cards.proofs.CheckLaws.{same_test, test_same, at_least, not_lt_test, passed, no_fault, not_stopped, same_pair, both_gave}
 
 -- ---- columns

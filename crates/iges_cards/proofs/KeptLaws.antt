@@ -1,6 +1,6 @@
 -- What the cards of a file keep: how many lines there are, how wide they are, and that none has a line feed.
-use Rattle.std.proofs.Common.{◌≡◌, ℕ, suc, ◌≤◌, List, [], ◌∷◌, ◌++◌, length, take, drop, sym, ap, subst, ◌∙◌, arith, length-take-le}
-use Rattle.std.specs.List.{AllByRecursion, concat}
+use Rattle.std.proofs.Common.{◌≡◌, ℕ, suc, ◌≤◌, List, [], ◌∷◌, length, take, drop, sym, ap, subst, ◌∙◌, arith, length-take-le}
+use Rattle.std.specs.List.{AllByRecursion}
 use Rattle.std.proofs.lemmas.List.{take-append-drop, length-take}
 use Rattle.solid_base.specs.Series.{Spells}
 use Rattle.solid_base.specs.Texts.{IsOneLine}
@@ -9,7 +9,7 @@ use Rattle.iges_cards.specs.declared.sections.Section.{Section}
 use Rattle.iges_cards.specs.declared.sections.Section.TheVariants as section
 use Rattle.iges_cards.specs.Grammar.{IsCard, IsGroup, IsFixedForm}
 use Rattle.iges_cards.specs.Kept.{AreWide, NoneHasFeed, AreKept}
-use Rattle.iges_cards.proofs.LineLaws.{front_one_line}
+use Rattle.solid_base.proofs.Texts.{one_line_front, one_line_of_all}
 use Rattle.iges_cards.proofs.NumberLaws.{number_below}
 
 -- ---- one card
@@ -20,9 +20,9 @@ card_wide letter width n text kept most h =
 card_plain : (letter : Section) (width n : ℕ) (text kept : List ℕ) → IsCard letter width n text kept → IsOneLine kept
 card_plain letter width n text kept h =
     let c = h.numbered.columns_of in
-    let columns : IsOneLine h.columns = front_one_line h.columns c.tail (subst IsOneLine c.spelt h.is_line.one_line) in
+    let columns : IsOneLine h.columns = one_line_front h.columns c.tail (subst IsOneLine c.spelt h.is_line.one_line) in
     let front : IsOneLine (take width h.columns) =
-    front_one_line (take width h.columns) (drop width h.columns) (subst IsOneLine (sym (take-append-drop width h.columns)) columns) in
+    one_line_front (take width h.columns) (drop width h.columns) (subst IsOneLine (sym (take-append-drop width h.columns)) columns) in
     subst IsOneLine (sym h.kept_columns) front
 
 -- ---- all cards of a section
@@ -39,14 +39,6 @@ cards_plain letter width k text (card ∷ cards) (first, more, cut, one, rest) =
 both_each : (width : ℕ) (lines : List (List ℕ)) → AreWide width lines → NoneHasFeed lines → AllByRecursion (λ line. (length line ≡ width) × IsOneLine line) lines
 both_each width [] h k = tt
 both_each width (line ∷ lines) h k = ((h.0, k.0), both_each width lines h.1 k.1)
-
-append_plain : (a b : List ℕ) → IsOneLine a → IsOneLine b → IsOneLine (a ++ b)
-append_plain [] b h k = k
-append_plain (x ∷ a) b h k = (h.0, append_plain a b h.1 k)
-
-joined_plain : (lines : List (List ℕ)) → NoneHasFeed lines → IsOneLine (concat lines)
-joined_plain [] h = tt
-joined_plain (line ∷ lines) h = append_plain line (concat lines) h.0 (joined_plain lines h.1)
 
 -- ---- how many there are, by the terminate line
 group_below : (letter : Section) (count : ℕ) (columns : List ℕ) → IsGroup letter count columns → length columns ≤ 8 → count ≤ 9999999
@@ -70,7 +62,7 @@ cards_are_kept bytes cards h =
       start = both_each 72 cards.start (cards_wide section.Start 72 1 s.start_text cards.start (omega arith) s.start_lines) (cards_plain section.Start 72 1 s.start_text cards.start s.start_lines);
       directory_wide = cards_wide section.Directory 80 1 s.directory_text cards.directory (omega arith) s.directory_lines;
       params_wide = cards_wide section.Parameter 64 1 s.parameter_text cards.params (omega arith) s.parameter_lines;
-      global = subst IsOneLine (sym h.joined) (joined_plain h.globals (cards_plain section.Global 72 1 s.global_text h.globals s.global_lines));
+      global = subst IsOneLine (sym h.joined) (one_line_of_all h.globals (cards_plain section.Global 72 1 s.global_text h.globals s.global_lines));
       directory_plain = cards_plain section.Directory 80 1 s.directory_text cards.directory s.directory_lines;
       params_plain = cards_plain section.Parameter 64 1 s.parameter_text cards.params s.parameter_lines;
     }

@@ -5,6 +5,7 @@ use Rattle.std.proofs.lemmas.List.{take-append-drop}
 use Rattle.std.proofs.lemmas.List.Elements.{recursion_from_All}
 use Rattle.std.proofs.Math.Seq.{drop-cons}
 use Rattle.solid_base.specs.Texts.{IsOneLine}
+use Rattle.solid_base.proofs.Texts.{one_line_front}
 use Rattle.iges_cards.specs.Lines.{IsLine, put_in_front, line_texts, is_feed, line_of}
 use Rattle.iges_cards.proofs.CheckLaws.{and_false, test_other, test_same, test_not}
 
@@ -155,17 +156,13 @@ ends_in_return (b ∷ c ∷ bs) = elim (ends_in_return (c ∷ bs)) as (λ _. End
   | inr other ↦ inr (after_one b (c ∷ bs) (omega arith) other)
 ]
 
-pub front_one_line : (a b : List ℕ) → IsOneLine (a ++ b) → IsOneLine a
-front_one_line [] b h = tt
-front_one_line (x ∷ xs) b h = (h.0, front_one_line xs b h.1)
-
 -- the text of an ended line is a line with its end
 ended_case : (text front : List ℕ) → IsOneLine front → text ≡ front ++ 10 ∷ [] → EndsInReturn front → IsLine text (line_of text)
 unfolding EndsInReturn
 ended_case text front h e (inl found) =
     let whole : text ≡ found.0 ++ 13 ∷ 10 ∷ [] = e ∙ ap (λ l. l ++ 10 ∷ []) found.1 ∙ append_assoc found.0 (13 ∷ []) (10 ∷ []) in
     let line : line_of text ≡ found.0 = ap line_of whole ∙ line_return found.0 in
-    let short : IsOneLine found.0 = front_one_line found.0 (13 ∷ []) (subst IsOneLine found.1 h) in
+    let short : IsOneLine found.0 = one_line_front found.0 (13 ∷ []) (subst IsOneLine found.1 h) in
     subst (λ l. IsLine text l) (sym line) (record { one_line = short; ended = inl whole })
 ended_case text front h e (inr other) =
     let line : line_of text ≡ front = ap line_of e ∙ line_plain front h other in

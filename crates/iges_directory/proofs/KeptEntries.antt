@@ -1,30 +1,14 @@
 -- What the entries of a directory keep: the ranges of their numbers, and attributes of 96 bytes without a line feed.
-use Rattle.std.proofs.Common.{◌≡◌, ◌≢◌, ℕ, zero, suc, ◌+◌, ◌-◌, ◌*◌, ◌≤◌, List, [], ◌∷◌, ◌++◌, length, take, drop, replicate, ◌==◌, false, refl, sym, ap, subst, ◌∙◌, arith, inl, inr, length-append}
+use Rattle.std.proofs.Common.{◌≡◌, ℕ, ◌+◌, ◌-◌, ◌*◌, ◌≤◌, List, [], ◌∷◌, ◌++◌, length, take, drop, refl, sym, ap, subst, ◌∙◌, arith, inl, inr, length-append}
 use Rattle.std.specs.List.{AllByRecursion}
 use Rattle.std.proofs.lemmas.List.{take-append-drop, length-take, length-drop}
-use Rattle.solid_base.specs.Texts.{IsOneLine, blank_attributes}
-use Rattle.iges_fields.proofs.Kept.{one_line_front, one_line_end}
+use Rattle.solid_base.specs.Texts.{IsOneLine}
+use Rattle.solid_base.proofs.Texts.{one_line_front, one_line_end, one_line_joined, blank_attributes_in_line}
 use Rattle.iges_directory.specs.declared.pairs.Pair.{Pair}
 use Rattle.iges_directory.specs.Kept.{AreColumns, IsKept}
 use Rattle.iges_directory.specs.Pairs.{fields, attributes, null_pair, IsPair, ArePairs, IsDirectory}
 
 -- ---- attributes
-lines_joined : (a b : List ℕ) → IsOneLine a → IsOneLine b → IsOneLine (a ++ b)
-lines_joined [] b h k = k
-lines_joined (x ∷ a) b h k = (h.0, lines_joined a b h.1 k)
-
-same_bytes : (n b : ℕ) → b ≢ 10 → IsOneLine (replicate n b)
-same_bytes zero b h = tt
-same_bytes (suc n) b h = (h, same_bytes n b h)
-
-differs : (b : ℕ) → (b == 10) ≡ false → b ≢ 10
-differs b h = grind arith
-
-blank_line : IsOneLine blank_attributes
-blank_line =
-    lines_joined (replicate 40 32 ++ replicate 8 48) (replicate 48 32)
-    (lines_joined (replicate 40 32) (replicate 8 48) (same_bytes 40 32 (differs 32 refl)) (same_bytes 8 48 (differs 48 refl))) (same_bytes 48 32 (differs 32 refl))
-
 fields_line : (from to : ℕ) (line : List ℕ) → IsOneLine line → IsOneLine (fields from to line)
 fields_line from to line h =
     let start = 8 * (from - 1) in
@@ -51,13 +35,13 @@ attributes_size one two h k =
 
 attributes_line : (one two : List ℕ) → IsOneLine one → IsOneLine two → IsOneLine (attributes one two)
 attributes_line one two h k =
-    lines_joined ((fields 3 6 one ++ fields 8 9 one) ++ fields 2 3 two) (fields 6 9 two)
-    (lines_joined (fields 3 6 one ++ fields 8 9 one) (fields 2 3 two) (lines_joined (fields 3 6 one) (fields 8 9 one) (fields_line 3 6 one h) (fields_line 8 9 one h)) (fields_line 2 3 two k))
+    one_line_joined ((fields 3 6 one ++ fields 8 9 one) ++ fields 2 3 two) (fields 6 9 two)
+    (one_line_joined (fields 3 6 one ++ fields 8 9 one) (fields 2 3 two) (one_line_joined (fields 3 6 one) (fields 8 9 one) (fields_line 3 6 one h) (fields_line 8 9 one h)) (fields_line 2 3 two k))
     (fields_line 6 9 two k)
 
 -- ---- entries
 null_kept : IsKept null_pair
-null_kept = record { kind = omega arith; form = omega arith; matrix = omega arith; null = λ e. refl; attributes = refl; in_line = blank_line }
+null_kept = record { kind = omega arith; form = omega arith; matrix = omega arith; null = λ e. refl; attributes = refl; in_line = blank_attributes_in_line }
 
 pair_kept : (params : ℕ) (one two : List ℕ) (pair : Pair) → (length one ≡ 80) × IsOneLine one → (length two ≡ 80) × IsOneLine two → IsPair params one two pair → IsKept pair
 pair_kept params one two pair h k (inl null) = subst IsKept (sym null.1) null_kept

@@ -6,7 +6,8 @@ use Rattle.solid_base.specs.declared.entities.Token.TheVariants as token
 use Rattle.iges_fields.specs.Delimiters.{AreDelimiters}
 use Rattle.iges_fields.specs.Grammar.{delimiter}
 use Rattle.iges_fields.specs.Layout.{spelling_of_token, AreSpelt, AreOneLine, laid, spelt_size, is_last}
-use Rattle.iges_fields.proofs.Kept.{one_line_end, fields_spelt, fields_line}
+use Rattle.solid_base.proofs.Texts.{one_line_end}
+use Rattle.iges_fields.proofs.Kept.{fields_spelt, fields_line}
 use Rattle.iges_fields.proofs.Sizes.{fields_size, laid_size}
 use Rattle.iges_directory.specs.declared.globals.GlobalText.{GlobalText}
 use Rattle.iges_directory.specs.Global.{TellsDelimiter, IsGlobal}

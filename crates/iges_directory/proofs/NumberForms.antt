@@ -1,30 +1,15 @@
 -- Numbers in columns: what is spelt is read, and what is read is spelt.
-use Rattle.std.proofs.Common.{◌≡◌, inl, inr, ℕ, ◌<◌, List, [], ◌∷◌, ◌++◌, Bool, true, false, cond, not, ◌&&◌, ◌==◌, length, take, drop, Option, Some, None, refl, sym, ap, subst, ◌∙◌, arith, IsTrue}
-use Rattle.std.specs.List.{AllByRecursion, prefix_len, list_all}
+use Rattle.std.proofs.Common.{◌≡◌, inl, inr, ℕ, ◌<◌, List, [], ◌∷◌, ◌++◌, Bool, true, false, cond, ◌==◌, length, take, drop, Option, Some, None, refl, sym, ap, subst, ◌∙◌, arith}
+use Rattle.std.specs.List.{prefix_len}
 use Rattle.std.proofs.lemmas.List.{append-nil, take-append-drop}
-use Rattle.std.proofs.lemmas.List.Folds.{length-prefix_len}
 use Rattle.std.proofs.lemmas.Bool.Decides.{nat_tests}
-use Rattle.std.proofs.Math.Seq.{take-append_seam, drop-append_seam}
-use Rattle.solid_base.specs.Digits.{is_digit, AreDigits, number_of}
-use Rattle.solid_base.specs.Columns.{AreDigitsOf, number_before, digits_in}
-use Rattle.solid_base.specs.Spelling.{is_blank, AreBlanks, Sign, NoSign, Plus, Minus, sign_text, sign_of, after_sign, after_blanks, digit_count}
+use Rattle.solid_base.specs.Digits.{is_digit, AreDigits}
+use Rattle.solid_base.specs.Columns.{AreDigitsOf, digits_in}
+use Rattle.solid_base.specs.Spelling.{is_blank, AreBlanks, Sign, NoSign, Plus, Minus, sign_text, sign_of, after_sign, after_blanks}
 use Rattle.solid_base.proofs.Numerals.{sign_cut}
-use Rattle.solid_base.proofs.Prefix.{both, prefix_upto, rest_upto, front_passes}
+use Rattle.solid_base.proofs.Prefix.{rest_upto, front_passes}
+use Rattle.solid_base.proofs.Columns.{digit_not_blank, digits_again, digits_take}
 use Rattle.iges_directory.specs.ColumnNumbers.{IsGiven, IsNumber, signed, number_at, number_in}
-
-pub all_test : (p : ℕ → Bool) (xs : List ℕ) → AllByRecursion (λ b. IsTrue (p b)) xs → list_all p xs ≡ true
-all_test p [] h = refl
-all_test p (x ∷ xs) h = rw (h.0, all_test p xs h.1) refl
-
-pub test_all : (p : ℕ → Bool) (xs : List ℕ) → list_all p xs ≡ true → AllByRecursion (λ b. IsTrue (p b)) xs
-test_all p [] h = tt
-test_all p (x ∷ xs) h = let (a, b) = both (p x) (list_all p xs) h in (a, test_all p xs b)
-
-digit_not_blank : (b : ℕ) → is_digit b ≡ true → is_blank b ≡ false
-digit_not_blank b h = grind (arith, nat_tests)
-
-blank_not_digit : (b : ℕ) → is_blank b ≡ true → is_digit b ≡ false
-blank_not_digit b h = grind (arith, nat_tests)
 
 digit_not_plus : (b : ℕ) → is_digit b ≡ true → (b == 43) ≡ false
 digit_not_plus b h = grind (arith, nat_tests)
@@ -35,15 +20,8 @@ digit_not_minus b h = grind (arith, nat_tests)
 positive : (n : ℕ) → 0 < n → (n == 0) ≡ false
 positive n h = grind arith
 
-not_zero : (n : ℕ) → not (n == 0) ≡ true → 0 < n
-not_zero n h = grind arith
-
 is_zero : (n : ℕ) → (n == 0) ≡ true → n ≡ 0
 is_zero n h = grind arith
-
-blanks_stop : (after : List ℕ) → AreBlanks after → prefix_len is_digit after ≡ 0
-blanks_stop [] h = refl
-blanks_stop (b ∷ bs) h = rw (blank_not_digit b h.0) refl
 
 -- ---- what is spelt is read
 
@@ -51,20 +29,6 @@ signed_again : (sign : Sign) (n : ℕ) → (sign ≡ Minus → n ≡ 0) → sign
 signed_again NoSign n h = refl
 signed_again Plus n h = refl
 signed_again Minus n h = let none : n ≡ 0 = h refl in rw none refl
-
-digits_again : (n : ℕ) (columns : List ℕ) → AreDigitsOf n columns → digits_in columns ≡ Some n
-unfolding digits_in
-digits_again n columns h =
-    let spelt = h.digits ++ h.after in
-    let read : number_before (digit_count spelt) spelt ≡ Some (number_of h.digits) =
-    rw (
-      prefix_upto is_digit h.digits h.after h.all_digits (blanks_stop h.after h.after_blank),
-      drop-append_seam h.digits h.after,
-      take-append_seam h.digits h.after,
-      all_test is_blank h.after h.after_blank,
-      positive (length h.digits) h.some_digit,
-    ) refl in
-    ap (λ t. number_before (digit_count t) t) h.spelt ∙ read ∙ ap Some h.value
 
 at_some : (b : ℕ) (bs : List ℕ) → number_at (b ∷ bs) ≡ signed (sign_of (b ∷ bs)) (digits_in (after_sign (b ∷ bs)))
 at_some b bs = rw (positive (length (b ∷ bs)) (omega arith)) refl
@@ -119,23 +83,6 @@ signed_takes Minus (Some m) n h =
     let (none, is) = passed (m == 0) (Some m) n h in
     let same : m ≡ n = cc in
     (is, λ e. sym same ∙ is_zero m none)
-
-digits_take : (n : ℕ) (text : List ℕ) → digits_in text ≡ Some n → AreDigitsOf n text
-unfolding digits_in
-digits_take n text h =
-    let count = digit_count text in
-    let (tests, value) = passed (not (count == 0) && list_all is_blank (drop count text)) (Some (number_of (take count text))) n h in
-    let (some, blanks) = both (not (count == 0)) (list_all is_blank (drop count text)) tests in
-    let more : 0 < count = not_zero count some in
-    record {
-      digits = take count text;
-      after = drop count text;
-      spelt = sym (take-append-drop count text);
-      some_digit = omega (arith, more, length-prefix_len is_digit text);
-      all_digits = front_passes is_digit text;
-      after_blank = test_all is_blank (drop count text) blanks;
-      value = (let e : number_of (take count text) ≡ n = cc in e);
-    }
 
 given_takes : (n : ℕ) (columns front text : List ℕ) → AreBlanks front → columns ≡ front ++ text → signed (sign_of text) (digits_in (after_sign text)) ≡ Some n → IsGiven n columns
 given_takes n columns front text blank is h =

@@ -10,7 +10,8 @@ use Rattle.iges_directory.specs.ColumnNumbers.{number_in}
 use Rattle.iges_directory.specs.Pairs.{field, attributes, null_pair, HoldsWithin, IsOfType, IsEntity, IsPair}
 use Rattle.solid_base.specs.Outcomes.{◌>>=◌}
 use Rattle.iges_directory.specs.DirectoryReading.{within, type_in, after_lines, after_first, entity_in, pair_in}
-use Rattle.iges_directory.proofs.NumberForms.{all_test, test_all, number_again, number_takes}
+use Rattle.solid_base.proofs.Columns.{all_test, test_all}
+use Rattle.iges_directory.proofs.NumberForms.{number_again, number_takes}
 
 -- ---- tests
 

@@ -3,6 +3,7 @@ use Rattle.std.proofs.Common.{ℕ, List, [], ◌∷◌, ◌++◌, Bool, subst}
 use Rattle.solid_base.specs.Texts.{IsOneLine}
 use Rattle.solid_base.specs.declared.entities.Token.{Token}
 use Rattle.solid_base.specs.declared.entities.Token.TheVariants as token
+use Rattle.solid_base.proofs.Texts.{one_line_front, one_line_end}
 use Rattle.iges_fields.specs.Grammar.{IsSpelling, delimiter, IsField}
 use Rattle.iges_fields.specs.Layout.{kind_of_token, content_of_token, IsSpelt, AreSpelt, AreOneLine, field_of, is_last, AreFields}
 
@@ -18,14 +19,6 @@ fields_spelt comma semi text [] h = tt
 fields_spelt comma semi text (t ∷ ts) h = (token_spelt t h.1.spelt h.1.spells, fields_spelt comma semi h.0 ts h.2)
 
 -- ---- of one line
-pub one_line_front : (a b : List ℕ) → IsOneLine (a ++ b) → IsOneLine a
-one_line_front [] b h = tt
-one_line_front (x ∷ a) b h = (h.0, one_line_front a b h.1)
-
-pub one_line_end : (a b : List ℕ) → IsOneLine (a ++ b) → IsOneLine b
-one_line_end [] b h = h
-one_line_end (x ∷ a) b h = one_line_end a b h.1
-
 token_line : (t : Token) (spelt : List ℕ) → IsSpelling (kind_of_token t) (content_of_token t) spelt → IsOneLine spelt → IsOneLine (content_of_token t)
 token_line token.Empty spelt h one = tt
 token_line (token.Whole text) spelt h one = subst IsOneLine h.1 one

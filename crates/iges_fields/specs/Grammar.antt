@@ -1,4 +1,4 @@
--- What a field is, apart from how it is found (IGES 5.3, 2.2.2 (constants) and 2.2.3
+-- What a field is, apart from how it is found (IGES 5.3, 2.2.2 (constants) and 2.2.3 (free format)
 -- (free format)).
 use Rattle.std.specs.Prelude.{◌≡◌, ℕ, ◌<◌, List, [], ◌∷◌, ◌++◌, Bool, cond, length}
 use Rattle.solid_base.specs.Digits.{AreDigits, number_of}

@@ -17,7 +17,7 @@ use Rattle.iges_fields.proofs.Sizes.{laid_size}
 use Rattle.iges_directory.specs.declared.pairs.Pair.{Pair}
 use Rattle.iges_parameters.specs.Tables.{is_read}
 use Rattle.iges_parameters.specs.Writing.{IsOfRecord}
-use Rattle.iges_parameters.specs.Accepted.{IsUnread, IsAcceptedEntity, IsAccepted, lines_of, most_lines, global_text}
+use Rattle.iges_parameters.specs.Accepted.{IsKeptRecord, IsAcceptedEntity, IsAccepted, lines_of, most_lines, global_text}
 use Rattle.iges_cards.specs.declared.reader.Cards.{Cards}
 use Rattle.iges_cards.specs.Grammar.{IsFixedForm}
 use Rattle.iges_file.specs.Entities.{IsEntry, entity_of, null_entity, kept_entity}
@@ -47,7 +47,7 @@ null_accepted pair null entry = record {
 -- what is kept of a row that isn't read
 abbrev UnreadOf : Row → Type 0
 UnreadOf row.Null = Unit {0}
-UnreadOf (row.Opaque kind form matrix text) = IsUnread kind form text
+UnreadOf (row.Opaque kind form matrix text) = IsKeptRecord kind form text
 UnreadOf (row.Matrix form affine next) = Unit {0}
 UnreadOf (row.Prim p matrix) = Unit {0}
 UnreadOf (row.Tree items matrix) = Unit {0}
@@ -56,7 +56,7 @@ UnreadOf (row.Instance child matrix) = Unit {0}
 
 pub kept_accepted : (pair : Pair) (text : List ℕ) → 1 ≤ pair.kind → is_read pair.kind pair.form ≡ false → IsOneLine text → length text ≤ 2 ^ 25 → IsEntry pair → IsAcceptedEntity (kept_entity pair text)
 kept_accepted pair text other unread line short entry =
-    let kept : IsUnread pair.kind pair.form (before_blanks text) = record {
+    let kept : IsKeptRecord pair.kind pair.form (before_blanks text) = record {
       kind_from = other;
       kind_to = entry.kind;
       form_to = entry.form;

@@ -1,4 +1,4 @@
--- The entities of a file: what a directory entry and its parameter lines give (IGES 5.3, 2.2.4.4 and 2.2.4.5).
+-- The entities of a file: what a directory entry and its parameter lines give (IGES 5.3, 2.2.4.4 (directory entry section) and 2.2.4.5 (parameter data section)).
 use Rattle.std.specs.Prelude.{◌≡◌, ◌≢◌, ℕ, ◌+◌, ◌-◌, ◌*◌, ◌≤◌, List, [], ◌∷◌, ◌++◌, cond, ◌==◌, length, take, drop, Result, Ok, Err}
 use Rattle.std.specs.List.{concat}
 use Rattle.solid_base.specs.Spelling.{before_blanks}

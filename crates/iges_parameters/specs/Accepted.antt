@@ -25,7 +25,7 @@ most_entities = 100000
 abbrev pub most_lines : ℕ
 most_lines = 300000
 
--- IGES 5.3, 2.2.4: sequence numbers of lines have seven digits, so a section has at most so many
+-- IGES 5.3, 2.2.4 (file structure): sequence numbers of lines have seven digits, so a section has at most so many
 -- lines
 abbrev pub most_section_lines : ℕ
 most_section_lines = 9999999
@@ -36,7 +36,7 @@ lines_of comma semi [] = 0
 lines_of comma semi (e ∷ es) =
     lines_for (length (record_text comma semi e.row e.tail)) + lines_of comma semi es
 
--- IGES 5.3, 2.2.4.3: the text of a global section as it is written, in lines of 72 columns: the two
+-- IGES 5.3, 2.2.4.3 (global section): the text of a global section as it is written, in lines of 72 columns: the two
 -- delimiters as texts of one byte, and the other parameters
 abbrev pub global_text : Model → List ℕ
 global_text model =
@@ -49,8 +49,8 @@ global_text model =
 abbrev pub IsWritable : Entity → Type 0
 IsWritable e = IsLawfulRow e.row × AreSpelt e.tail × IsTailOf e.row e.tail
 
--- an entity that isn't read: its type, its form and its record, which is kept as one line
-pub record IsUnread (kind form : ℕ) (text : List ℕ) : Type 0 where
+-- the record of an entity that isn't read, with its type and form: it is kept as one line
+pub record IsKeptRecord (kind form : ℕ) (text : List ℕ) : Type 0 where
   pub kind_from : 1 ≤ kind
   pub kind_to : kind ≤ 99999
   pub form_to : form ≤ 99999
@@ -61,7 +61,7 @@ pub record IsUnread (kind form : ℕ) (text : List ℕ) : Type 0 where
 
 -- an entity of a model that is served
 pub record IsAcceptedEntity (e : Entity) : Type 0 where
-  -- IGES 5.3, 2.2.4.4: the twelve directory fields of eight columns that are kept unread
+  -- IGES 5.3, 2.2.4.4 (directory entry section): the twelve directory fields of eight columns that are kept unread
   pub attributes : length e.attrs ≡ 96
   pub attributes_in_line : IsOneLine e.attrs
   pub lawful : IsLawfulRow e.row
@@ -72,7 +72,7 @@ pub record IsAcceptedEntity (e : Entity) : Type 0 where
   pub tail_of_row : IsTailOf e.row e.tail
   pub blank_where_null : e.row ≡ row.Null → e.attrs ≡ blank_attributes
   pub kept_where_unread : (kind form matrix : ℕ) (text : List ℕ)
-      → e.row ≡ row.Opaque kind form matrix text → IsUnread kind form text
+      → e.row ≡ row.Opaque kind form matrix text → IsKeptRecord kind form text
 
 -- ---- models
 

@@ -1,4 +1,4 @@
--- A record's text as the list of its fields (IGES 5.3, 2.2.3: the parameter delimiter stands between fields, the record delimiter after the last).
+-- A record's text as the list of its fields (IGES 5.3, 2.2.3 (free format): the parameter delimiter stands between fields, the record delimiter after the last).
 use Rattle.std.specs.Prelude.{ℕ, zero, suc, ◌+◌, List, [], ◌∷◌, length, cond, Option, Some, None, Result, Ok, Err}
 use Rattle.solid_base.specs.declared.entities.Token.{Token}
 use Rattle.solid_base.specs.declared.entities.Token.TheVariants as token

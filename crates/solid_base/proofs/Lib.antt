@@ -9,3 +9,5 @@ pub mod PostOrders
 pub mod DecimalTexts
 pub mod SeriesLaws
 pub mod Counts
+pub mod Texts
+pub mod Columns

@@ -1,4 +1,4 @@
--- IGES 5.3, 2.2.2: unsigned numbers in fixed columns. That blanks may stand after them, and zeros in front, is solidd's own.
+-- IGES 5.3, 2.2.4 (file structure): unsigned numbers in fixed columns. That blanks may stand after them, and zeros in front, is solidd's own.
 use Rattle.std.specs.Prelude.{◌≡◌, ◌<◌, ℕ, List, ◌++◌, ◌&&◌, ◌==◌, cond, not, length, take, drop, Option, None, Some}
 use Rattle.std.specs.List.{list_all}
 use Rattle.solid_base.specs.Digits.{AreDigits, number_of}

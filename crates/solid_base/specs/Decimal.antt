@@ -1,4 +1,4 @@
--- The value of a number's spelling, and the steps that it is read as. Values by IGES 5.3, 2.2.2.2; the rounding is solidd's own.
+-- The value of a number's spelling, and the steps that it is read as. Values by IGES 5.3, 2.2.2 (constants); the rounding is solidd's own.
 use Rattle.std.specs.Prelude.{◌≡◌, ℕ, ◌+◌, ◌*◌, ◌/◌, ◌^◌, ◌<◌, ◌≤◌, List, ◌++◌, length, Option, Some, None, ℤ, pos, neg_ℤ}
 use Rattle.solid_base.specs.Digits.{number_of}
 use Rattle.solid_base.specs.Spelling.{Sign, NoSign, Plus, Minus, Exponent, Number, IsNumber, number_text, decimals_of}

@@ -1,4 +1,4 @@
--- Decimal digits (IGES 5.3, 2.2.2.1: the digits of a number, most significant first).
+-- Decimal digits (IGES 5.3, 2.2.2 (constants): the digits of a number, most significant first).
 use Rattle.std.specs.Prelude.{ℕ, ◌+◌, ◌*◌, ◌-◌, List, Bool, ◌&&◌, nat_le, fold, IsTrue}
 use Rattle.std.specs.List.{AllByRecursion}
 

@@ -12,7 +12,7 @@ use Rattle.solid_base.specs.declared.solids.Row.TheVariants as row
 
 -- ---- numbers of entities
 
--- IGES 5.3, 2.2.4.4: an entity is named by the odd number of its first directory line, so that at place i, counted from 0, has the number 2 i + 1
+-- IGES 5.3, 2.2.4.4 (directory entry section): an entity is named by the odd number of its first directory line, so that at place i, counted from 0, has the number 2 i + 1
 abbrev pub at_number : {X : Type 0} → List X → ℕ → Option X
 at_number entities number = cond (number % 2 == 1) (slice_get entities (number / 2)) None
 
@@ -40,7 +40,7 @@ abbrev pub target : Reference → ℕ
 target (reference.Matrix number) = number
 target (reference.Solid number) = number
 
--- IGES 5.3, 2.2.4.4.7: a directory entry names a matrix, or none by 0
+-- IGES 5.3, 2.2.4.4 (directory entry section): a directory entry names a matrix, or none by 0
 abbrev pub matrix_named : ℕ → List Reference
 matrix_named zero = []
 matrix_named (suc n) = reference.Matrix (suc n) ∷ []

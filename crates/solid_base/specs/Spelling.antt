@@ -1,4 +1,4 @@
--- How numbers are spelt in fields: integer and real constants (IGES 5.3, 2.2.2.1 and 2.2.2.2).
+-- How numbers are spelt in fields: integer and real constants (IGES 5.3, 2.2.2 (constants)).
 use Rattle.std.specs.Prelude.{◌≡◌, ℕ, ◌+◌, ◌<◌, ◌-◌, List, [], ◌∷◌, ◌++◌, Bool, true, cond, not, ◌&&◌, ◌||◌, ◌==◌, IsTrue, length, take, drop, Option, Some, None, ◌⊎◌, IsSome}
 use Rattle.std.specs.List.{prefix_len, suffix_len, AllByRecursion}
 use Rattle.solid_base.specs.Digits.{is_digit, AreDigits}
@@ -76,7 +76,7 @@ pub record IsNumber (n : Number) : Type 0 where
   pub some : 0 < length n.whole + length (decimals_of n.fraction)
   pub exponent : IsExponent n.exponent
 
--- Whole (IGES 5.3, 2.2.2.1): an optional sign and one or more digits
+-- Whole (IGES 5.3, 2.2.2 (constants)): an optional sign and one or more digits
 pub record IsWhole (text : List ℕ) : Type 0 where
   pub sign : Sign
   pub digits : List ℕ
@@ -84,7 +84,7 @@ pub record IsWhole (text : List ℕ) : Type 0 where
   pub some : 0 < length digits
   pub spelt : text ≡ sign_text sign ++ digits
 
--- Real (IGES 5.3, 2.2.2.2): a number with a point or an exponent
+-- Real (IGES 5.3, 2.2.2 (constants)): a number with a point or an exponent
 pub record IsReal (text : List ℕ) : Type 0 where
   pub number : Number
   pub lawful : IsNumber number

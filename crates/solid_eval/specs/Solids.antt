@@ -50,7 +50,7 @@ united chain child before (p ∷ items) = united chain child (combined union bef
 
 -- ---- entities
 
--- IGES 5.3, 2.2.4.4.7: an entity is moved by the chain of the matrix that its directory entry names. The solid of a row is made from the chains of matrices and the solids of the entities that it names
+-- IGES 5.3, 2.2.4.4 (directory entry section): an entity is moved by the chain of the matrix that its directory entry names. The solid of a row is made from the chains of matrices and the solids of the entities that it names
 abbrev pub row_solid : (ℕ → List Affine) → (ℕ → Solid) → ℕ → Row → Solid
 row_solid chain child e row.Null = nothing
 row_solid chain child e (row.Opaque kind form matrix text) = nothing
