@@ -3,14 +3,10 @@ use Rattle.std.specs.Prelude.{◌≡◌, ℕ, ◌≤◌, ◌<◌, List, ◌∷�
 use Rattle.std.specs.List.{AllByRecursion}
 use Rattle.solid_base.specs.declared.entities.Entity.{Entity}
 use Rattle.solid_base.specs.declared.references.Reference.{Reference}
-use Rattle.solid_base.specs.References.{HasNumber, target, references_of, row_at}
+use Rattle.solid_base.specs.References.{target, references_of, row_at}
 use Rattle.solid_base.specs.Graph.{IsDangling, IsMisdirected, ReachesCycle, depth_of, most_levels, weight_of, most_weight}
 use Rattle.entity_graph.specs.declared.graph_faults.GraphFault.{GraphFault}
 use Rattle.entity_graph.specs.declared.graph_faults.GraphFault.TheVariants as fault
-
--- some entity has the number
-abbrev pub IsNumber : List Entity → ℕ → Type 0
-IsNumber rows e = HasNumber rows e
 
 -- ---- rules that hold of all rows
 

@@ -2,5 +2,4 @@ pub mod Solids
 pub mod Classes
 pub mod Written
 pub mod Uses
-pub mod Ticks
 pub mod Locality
