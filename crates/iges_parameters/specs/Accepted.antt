@@ -80,7 +80,7 @@ pub record IsAcceptedEntity (e : Entity) : Type 0 where
 abbrev pub IsStartLine : List ℕ → Type 0
 IsStartLine line = (length line ≡ 72) × IsOneLine line
 
--- a model that is served: it can be written as a file, which is read back as this model
+-- a model that is served: what holds of each model that is read, and what a file is to be written from
 pub record IsAccepted (model : Model) : Type 0 where
   pub few_entities : length model.rows ≤ most_entities
   pub entities : AllByRecursion IsAcceptedEntity model.rows
