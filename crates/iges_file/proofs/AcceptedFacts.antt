@@ -1,46 +1,41 @@
 -- What is read from a file is accepted: each entity, and the model.
-use Rattle.std.proofs.Common.{◌≡◌, ℕ, ◌+◌, ◌*◌, ◌^◌, ◌≤◌, List, [], ◌∷◌, ◌++◌, length, decimal, Bool, false, refl, sym, ap, subst, ◌∙◌, arith, length-append}
-use Rattle.std.proofs.lemmas.Fmt.{length-decimal-le}
+use Rattle.std.proofs.Common.{◌≡◌, ℕ, ◌^◌, ◌≤◌, List, length, false, refl, ap, subst, arith}
 use Rattle.std.specs.List.{AllByRecursion}
 use Rattle.solid_base.specs.Texts.{IsOneLine}
 use Rattle.solid_base.specs.Spelling.{before_blanks}
 use Rattle.solid_base.specs.Ranges.{IsLawfulRow}
-use Rattle.solid_base.specs.Graph.{AreSound}
-use Rattle.solid_base.specs.declared.entities.Entity.{Entity}
 use Rattle.solid_base.specs.declared.entities.Model.{Model}
 use Rattle.solid_base.specs.declared.entities.Token.{Token}
-use Rattle.solid_base.specs.declared.entities.Token.TheVariants as token
 use Rattle.solid_base.specs.declared.solids.Row.{Row}
 use Rattle.solid_base.specs.declared.solids.Row.TheVariants as row
-use Rattle.iges_fields.specs.Layout.{AreSpelt, AreOneLine, laid, spelt_size}
-use Rattle.iges_fields.proofs.Sizes.{laid_size}
+use Rattle.iges_fields.specs.Layout.{AreSpelt, AreOneLine}
+use Rattle.iges_cards.proofs.KeptLaws.{cards_are_kept}
 use Rattle.iges_directory.specs.declared.pairs.Pair.{Pair}
+use Rattle.iges_directory.specs.Kept.{IsKept}
+use Rattle.iges_directory.proofs.KeptGlobals.{delimiters_kept, parameters_spelt, parameters_line, whole_room}
 use Rattle.iges_parameters.specs.Tables.{is_read}
 use Rattle.iges_parameters.specs.Writing.{IsOfRecord}
-use Rattle.iges_parameters.specs.Accepted.{IsKeptRecord, IsAcceptedEntity, IsAccepted, lines_of, most_lines, global_text}
-use Rattle.iges_cards.specs.declared.reader.Cards.{Cards}
-use Rattle.iges_cards.specs.Grammar.{IsFixedForm}
-use Rattle.iges_file.specs.Entities.{IsEntry, entity_of, null_entity, kept_entity}
+use Rattle.iges_parameters.specs.Accepted.{IsKeptRecord, IsAcceptedEntity, IsAccepted}
+use Rattle.iges_file.specs.Entities.{entity_of, null_entity, kept_entity}
 use Rattle.iges_file.specs.Files.{Reads, global_of}
 use Rattle.iges_file.proofs.ReadRows.{IsRowWith, may_have_tail}
 use Rattle.iges_file.proofs.Blanks.{blanks_left_out, blanks_left_out_again, blanks_left_out_short}
-use Rattle.iges_file.proofs.FormFacts.{form_within}
+use Rattle.iges_file.proofs.FormFacts.{global_short}
 use Rattle.iges_file.proofs.DirectoryFacts.{few_pairs}
-use Rattle.iges_file.proofs.GlobalFacts.{delimiters_of, global_tokens}
 use Rattle.iges_file.proofs.RowLoops.{entities_counted}
 
 -- ---- entities
 
-pub null_accepted : (pair : Pair) → pair.kind ≡ 0 → IsEntry pair → IsAcceptedEntity (null_entity pair)
+pub null_accepted : (pair : Pair) → pair.kind ≡ 0 → IsKept pair → IsAcceptedEntity (null_entity pair)
 null_accepted pair null entry = record {
   attributes = entry.attributes;
-  attributes_in_line = entry.attributes_in_line;
+  attributes_in_line = entry.in_line;
   lawful = tt;
   matrix = omega arith;
   tail_spelt = tt;
   tail_in_line = tt;
   tail_of_row = refl;
-  blank_where_null = λ e. entry.blank_where_null null;
+  blank_where_null = λ e. ap (λ (p : Pair). p.attrs) (entry.null null);
   kept_where_unread = λ kind form matrix text e. cc;
 }
 
@@ -54,7 +49,7 @@ UnreadOf (row.Tree items matrix) = Unit {0}
 UnreadOf (row.Assembly items matrix) = Unit {0}
 UnreadOf (row.Instance child matrix) = Unit {0}
 
-pub kept_accepted : (pair : Pair) (text : List ℕ) → 1 ≤ pair.kind → is_read pair.kind pair.form ≡ false → IsOneLine text → length text ≤ 2 ^ 25 → IsEntry pair → IsAcceptedEntity (kept_entity pair text)
+pub kept_accepted : (pair : Pair) (text : List ℕ) → 1 ≤ pair.kind → is_read pair.kind pair.form ≡ false → IsOneLine text → length text ≤ 2 ^ 25 → IsKept pair → IsAcceptedEntity (kept_entity pair text)
 kept_accepted pair text other unread line short entry =
     let kept : IsKeptRecord pair.kind pair.form (before_blanks text) = record {
       kind_from = other;
@@ -67,7 +62,7 @@ kept_accepted pair text other unread line short entry =
     } in
     record {
       attributes = entry.attributes;
-      attributes_in_line = entry.attributes_in_line;
+      attributes_in_line = entry.in_line;
       lawful = tt;
       matrix = entry.matrix;
       tail_spelt = tt;
@@ -77,10 +72,10 @@ kept_accepted pair text other unread line short entry =
       kept_where_unread = λ kind form matrix kept_text e. subst UnreadOf e kept;
     }
 
-pub read_accepted : (pair : Pair) (x : Row × List Token) → IsRowWith pair.matrix x.0 → IsLawfulRow x.0 → AreSpelt x.1 → AreOneLine x.1 → IsEntry pair → IsAcceptedEntity (entity_of pair x)
+pub read_accepted : (pair : Pair) (x : Row × List Token) → IsRowWith pair.matrix x.0 → IsLawfulRow x.0 → AreSpelt x.1 → AreOneLine x.1 → IsKept pair → IsAcceptedEntity (entity_of pair x)
 read_accepted pair x of_record lawful spelt line entry = record {
   attributes = entry.attributes;
-  attributes_in_line = entry.attributes_in_line;
+  attributes_in_line = entry.in_line;
   lawful = lawful;
   matrix = omega (arith, of_record.1, entry.matrix);
   tail_spelt = spelt;
@@ -92,32 +87,24 @@ read_accepted pair x of_record lawful spelt line entry = record {
 
 -- ---- the model
 
--- a text of one byte takes four bytes with the delimiter after it
-global_size : (comma semi : ℕ) (tokens : List Token) → spelt_size (token.Text (comma ∷ []) ∷ token.Text (semi ∷ []) ∷ tokens) ≤ 8 + spelt_size tokens
-unfolding spelt_size
-global_size comma semi tokens =
-    let one = length-decimal-le 1 1 (omega arith) (omega arith) (omega arith) in
-    let first = length-append (decimal 1) (72 ∷ comma ∷ []) in
-    let second = length-append (decimal 1) (72 ∷ semi ∷ []) in
-    omega (arith, one, first, second)
-
 pub model_accepted : (bytes : List ℕ) (model : Model) (end : ℕ) → length bytes ≤ 2 ^ 25 → Reads bytes model end → AllByRecursion IsAcceptedEntity model.rows → IsAccepted model
 model_accepted bytes model end small reads entities =
-    let form = form_within bytes reads.cards reads.form in
-    let tokens = global_tokens reads.cards.global (global_of model) form.global_in_line (omega (arith, form.globals, small)) reads.globals in
+    let kept = cards_are_kept bytes reads.cards reads.form in
+    let text = reads.cards.global in
+    let short = global_short bytes reads.cards reads.form in
+    let room = whole_room text (global_of model) reads.globals (omega (arith, short, small)) in
     let counted = entities_counted model.comma model.semi reads.cards.params reads.pairs model.rows reads.entities in
-    let laid_long = laid_size 72 model.comma model.semi 0 (token.Text (model.comma ∷ []) ∷ token.Text (model.semi ∷ []) ∷ model.global) in
     let start_lines = ap (λ (ls : List (List ℕ)). length ls) reads.start in
     record {
       few_entities = omega (arith, counted, few_pairs (length reads.cards.params) reads.cards.directory reads.pairs reads.directory);
       entities = entities;
       references = reads.sound;
       few_lines = reads.few;
-      delimiters = delimiters_of reads.cards.global (global_of model) reads.globals;
-      some_start = omega (arith, start_lines, reads.form.some_start);
-      few_start = omega (arith, start_lines, form.few_start, small);
-      start_lines = rw reads.start form.start;
-      global_spelt = tokens.spelt;
-      global_in_line = tokens.in_line;
-      few_global = omega (arith, laid_long, global_size model.comma model.semi model.global, tokens.short, form.globals, small);
+      delimiters = delimiters_kept text (global_of model) reads.globals;
+      some_start = omega (arith, start_lines, kept.some_start);
+      few_start = omega (arith, start_lines, kept.few_start);
+      start_lines = rw reads.start kept.start;
+      global_spelt = parameters_spelt text (global_of model) reads.globals;
+      global_in_line = parameters_line text (global_of model) reads.globals kept.global;
+      few_global = omega (arith, room, short, small);
     }

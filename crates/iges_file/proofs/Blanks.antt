@@ -1,11 +1,12 @@
 -- A text without the blanks after it: no blank stands at its end, and it holds nothing but the text's bytes.
-use Rattle.std.proofs.Common.{◌≡◌, ◌≢◌, ℕ, zero, suc, ◌+◌, ◌-◌, ◌≤◌, List, [], ◌∷◌, ◌++◌, Bool, true, false, cond, length, take, drop, reverse, refl, sym, ap, ◌∙◌, arith, one-add, length-drop}
+use Rattle.std.proofs.Common.{◌≡◌, ℕ, suc, ◌+◌, ◌-◌, ◌≤◌, List, [], ◌∷◌, ◌++◌, Bool, true, false, cond, length, take, drop, reverse, refl, sym, ap, subst, ◌∙◌, arith, one-add, length-drop}
 use Rattle.std.specs.List.{prefix_len, suffix_len}
-use Rattle.std.proofs.lemmas.List.{reverse-reverse, reverse-append, length-reverse, take-append-drop}
-use Rattle.std.proofs.Math.Seq.{take-append_seam}
+use Rattle.std.proofs.lemmas.List.{reverse-reverse, reverse-append, length-reverse, length-take, take-append-drop}
+use Rattle.std.proofs.Math.Seq.{take-append_seam, take-length}
 use Rattle.solid_base.specs.Spelling.{is_blank, before_blanks}
 use Rattle.solid_base.specs.Texts.{IsOneLine}
-use Rattle.iges_file.proofs.Parts.{all_taken}
+use Rattle.solid_base.proofs.Texts.{one_line_front}
+use Rattle.iges_fields.proofs.Ends.{trimmed}
 
 -- after the items in front that pass, none passes
 drop_passing : {X : Type 0} (p : X → Bool) (xs : List X) → prefix_len p (drop (prefix_len p xs) xs) ≡ 0
@@ -36,23 +37,16 @@ no_blank_left text =
     let k = prefix_len is_blank r in
     ap (suffix_len is_blank) (cut_is text) ∙ ap (prefix_len is_blank) (reverse-reverse (drop k r)) ∙ drop_passing is_blank r
 
-take_whole : (text : List ℕ) → take (length text) text ≡ text
-take_whole [] = refl
-take_whole (b ∷ text) = ap (λ (t : List ℕ). b ∷ t) (take_whole text)
-
 pub blanks_left_out_again : (text : List ℕ) → before_blanks (before_blanks text) ≡ before_blanks text
 blanks_left_out_again text =
     let kept = before_blanks text in
     let none : length kept - suffix_len is_blank kept ≡ length kept = omega (arith, no_blank_left text) in
-    ap (λ (n : ℕ). take n kept) none ∙ take_whole kept
+    ap (λ (n : ℕ). take n kept) none ∙ take-length kept
 
 pub blanks_left_out : (text : List ℕ) → IsOneLine text → IsOneLine (before_blanks text)
-blanks_left_out text line = all_taken (λ b. b ≢ 10) (length text - suffix_len is_blank text) text line
-
-take_less : (n : ℕ) (text : List ℕ) → length (take n text) ≤ length text
-take_less zero text = omega arith
-take_less (suc n) [] = omega arith
-take_less (suc n) (b ∷ text) = omega (arith, take_less n text)
+blanks_left_out text line =
+    let whole = trimmed text in
+    one_line_front (before_blanks text) whole.after (subst IsOneLine whole.is line)
 
 pub blanks_left_out_short : (text : List ℕ) → length (before_blanks text) ≤ length text
-blanks_left_out_short text = take_less (length text - suffix_len is_blank text) text
+blanks_left_out_short text = omega (arith, length-take (length text - suffix_len is_blank text) text)

@@ -1,11 +1,9 @@
-pub mod Parts
 pub mod ReadRows
 pub mod JoinedLines
 pub mod RowLoops
 pub mod Blanks
 pub mod FormFacts
 pub mod DirectoryFacts
-pub mod GlobalFacts
 pub mod AcceptedFacts
 pub mod FirstFaults
 pub mod OneOutcome

@@ -1,14 +1,11 @@
 -- The entities of entries, read one after the other, as a loop does.
-use Rattle.std.proofs.Common.{◌≡◌, ℕ, zero, suc, ◌+◌, ◌*◌, List, [], ◌∷◌, ◌++◌, length, drop, Some, slice_get, Ok, Err, refl, arith}
-use Rattle.std.specs.List.{AllByRecursion}
+use Rattle.std.proofs.Common.{◌≡◌, ℕ, ◌+◌, ◌*◌, List, [], ◌∷◌, ◌++◌, length, Ok, Err, refl, arith}
 use Rattle.solid_base.specs.declared.entities.Entity.{Entity}
 use Rattle.iges_directory.specs.declared.pairs.Pair.{Pair}
 use Rattle.iges_parameters.specs.declared.faults.RowFault.{RowFault}
 use Rattle.iges_parameters.specs.declared.faults.RowFault.TheVariants as row
 use Rattle.iges_parameters.specs.Faults.{IsOfText}
-use Rattle.iges_parameters.specs.Writing.{record_text, lines_for}
 use Rattle.iges_file.specs.Faults.{of_row}
-use Rattle.iges_parameters.specs.Accepted.{lines_of}
 use Rattle.iges_file.specs.Entities.{entity_in, AreEntities, IsBadRow, IsRowsFault}
 
 -- an entity more
@@ -18,11 +15,6 @@ entities_pushed comma semi params [] [] pair e all one = (one, tt)
 entities_pushed comma semi params [] (f ∷ es) pair e all one = absurd all
 entities_pushed comma semi params (p ∷ pairs) [] pair e all one = absurd all
 entities_pushed comma semi params (p ∷ pairs) (f ∷ es) pair e all one = (all.0, entities_pushed comma semi params pairs es pair e all.1 one)
-
--- what holds of each item, and of one after them
-pub all_pushed : {X : Type 0} (P : X → Type 0) (xs : List X) (x : X) → AllByRecursion P xs → P x → AllByRecursion P (xs ++ x ∷ [])
-all_pushed P [] x all one = (one, tt)
-all_pushed P (y ∷ ys) x all one = (all.0, all_pushed P ys x all.1 one)
 
 -- the first record that has a fault
 blamed : (comma semi : ℕ) (params : List (List ℕ)) (front rest : List Pair) (es : List Entity) (pair : Pair) (number : ℕ) (f : RowFault) → AreEntities comma semi params front es

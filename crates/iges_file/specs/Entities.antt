@@ -2,14 +2,11 @@
 use Rattle.std.specs.Prelude.{◌≡◌, ◌≢◌, ℕ, ◌+◌, ◌-◌, ◌*◌, ◌≤◌, List, [], ◌∷◌, ◌++◌, cond, ◌==◌, length, take, drop, Result, Ok, Err}
 use Rattle.std.specs.List.{concat}
 use Rattle.solid_base.specs.Spelling.{before_blanks}
-use Rattle.solid_base.specs.Ranges.{most_whole}
-use Rattle.solid_base.specs.Texts.{IsOneLine, blank_attributes}
 use Rattle.solid_base.specs.declared.entities.Entity.{Entity}
 use Rattle.solid_base.specs.declared.entities.Token.{Token}
 use Rattle.solid_base.specs.declared.solids.Row.{Row}
 use Rattle.solid_base.specs.declared.solids.Row.TheVariants as row
 use Rattle.iges_directory.specs.declared.pairs.Pair.{Pair}
-pub use Rattle.iges_parameters.specs.Accepted.{IsWritable}
 use Rattle.iges_parameters.specs.declared.faults.RowFault.{RowFault}
 use Rattle.iges_parameters.specs.RecordFields.{fields_of}
 use Rattle.iges_parameters.specs.Tables.{is_read}
@@ -72,19 +69,6 @@ pub record IsBadRow (comma semi : ℕ) (params : List (List ℕ)) (pairs : List 
   pub number : entity ≡ 2 * length front + 1
 
 -- ---- conditions of the calls
-
--- so many columns of a line of a file
-abbrev pub AreColumns : ℕ → List ℕ → Type 0
-AreColumns width columns = (length columns ≡ width) × IsOneLine columns
-
--- an entry of a whole directory: the ranges of its numbers, and its fields that are kept unread
-pub record IsEntry (pair : Pair) : Type 0 where
-  pub kind : pair.kind ≤ 99999
-  pub form : pair.form ≤ 99999
-  pub matrix : pair.matrix ≤ most_whole
-  pub attributes : length pair.attrs ≡ 96
-  pub attributes_in_line : IsOneLine pair.attrs
-  pub blank_where_null : pair.kind ≡ 0 → pair.attrs ≡ blank_attributes
 
 -- the parameter lines of an entry, which isn't null, are lines of the file
 abbrev pub HasLines : ℕ → Pair → Type 0

@@ -1,11 +1,13 @@
 ghost use Rattle.std.specs.Prelude.{◌≡◌, ◌≢◌, ◌≤◌, ◌+◌, ◌-◌, ◌*◌, ◌^◌, length, take, drop, Ok, Err, IfOk, IfErr, true};
-ghost use Rattle.std.specs.List.{AllByRecursion, concat};
+ghost use Rattle.std.specs.List.{concat};
 ghost use Rattle.solid_base.specs.Texts.{IsOneLine};
+ghost use Rattle.iges_cards.specs.Kept.{AreWide, NoneHasFeed};
 ghost use Rattle.iges_fields.specs.Delimiters.{AreDelimiters};
+ghost use Rattle.iges_directory.specs.Kept.{IsKept};
 ghost use Rattle.iges_parameters.specs.Faults.{IsOfText};
 ghost use Rattle.iges_parameters.specs.Tables.{is_read};
 ghost use Rattle.iges_parameters.specs.Accepted.{IsAcceptedEntity};
-ghost use Rattle.iges_file.specs.Entities.{text_of, kept_entity, known_entity, entity_with, entity_in, AreColumns, IsEntry, HasLines};
+ghost use Rattle.iges_file.specs.Entities.{text_of, kept_entity, known_entity, entity_with, entity_in, HasLines};
 
 use iges_directory::Pair;
 use iges_parameters::{RECORD_COLUMNS, RowFault, is_read, read_known_row};
@@ -66,7 +68,7 @@ fn read_known_entity(
     text: Vec<u8>,
 ) -> Result<Entity, RowFault>
     requires known { is_read pair.kind pair.form ≡ true }
-    requires entry { IsEntry pair }
+    requires entry { IsKept pair }
     requires in_line { IsOneLine text.items }
     requires short { length text.items ≤ 2 ^ 25 }
     requires delimiters { AreDelimiters comma semi }
@@ -97,7 +99,7 @@ fn entity_with(
     pair: Pair,
     text: Vec<u8>,
 ) -> Result<Entity, RowFault>
-    requires entry { IsEntry pair }
+    requires entry { IsKept pair }
     requires kind { 1 ≤ pair.kind }
     requires in_line { IsOneLine text.items }
     requires short { length text.items ≤ 2 ^ 25 }
@@ -122,9 +124,10 @@ pub fn read_entity(
     params: &BorrowedLines,
     pair: Pair,
 ) -> Result<Entity, RowFault>
-    requires entry { IsEntry pair }
+    requires entry { IsKept pair }
     requires lines { HasLines (length params.now) pair }
-    requires params { AllByRecursion (AreColumns 64) params.now }
+    requires wide { AreWide 64 params.now }
+    requires plain { NoneHasFeed params.now }
     requires delimiters { AreDelimiters comma semi }
     ensures found { IfOk result (λ entity. entity_in comma semi params.now pair ≡ Ok entity) }
     ensures first_fault { IfErr result (λ fault. IsOfText fault → entity_in comma semi params.now pair ≡ Err fault) }

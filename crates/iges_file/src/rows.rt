@@ -1,9 +1,11 @@
 ghost use Rattle.std.specs.Prelude.{◌≡◌, ℕ, ◌<◌, ◌≤◌, ◌+◌, ◌*◌, ◌^◌, ◌++◌, ◌∷◌, [], length, map, Ok, Err, IfOk, IfErr, OnOk};
 ghost use Rattle.std.specs.List.{AllByRecursion};
 ghost use Rattle.std.specs.Arc.{arc_value};
+ghost use Rattle.iges_cards.specs.Kept.{AreWide, NoneHasFeed};
 ghost use Rattle.iges_fields.specs.Delimiters.{AreDelimiters};
+ghost use Rattle.iges_directory.specs.Kept.{IsKept};
 ghost use Rattle.iges_parameters.specs.Accepted.{IsAcceptedEntity, lines_of, most_lines};
-ghost use Rattle.iges_file.specs.Entities.{AreEntities, AreColumns, IsEntry, HasLines, IsRowsFault};
+ghost use Rattle.iges_file.specs.Entities.{AreEntities, HasLines, IsRowsFault};
 ghost use Rattle.iges_file.specs.Faults.{of_row, IsOuter};
 
 use crate::entities::read_entity;
@@ -46,9 +48,10 @@ pub fn read_rows(
     pairs: Vec<Pair>,
 ) -> Result<Rows, FileFault>
     requires few { length pairs.items ≤ 100000 }
-    requires entries { AllByRecursion IsEntry pairs.items }
+    requires entries { AllByRecursion IsKept pairs.items }
     requires lines { AllByRecursion (HasLines (length params.now)) pairs.items }
-    requires params { AllByRecursion (AreColumns 64) params.now }
+    requires wide { AreWide 64 params.now }
+    requires plain { NoneHasFeed params.now }
     requires delimiters { AreDelimiters comma semi }
     ensures found { IfOk result (AreEntities comma semi params.now pairs.items) }
     ensures first_fault { IfErr result (IsRowsFault comma semi params.now pairs.items) }

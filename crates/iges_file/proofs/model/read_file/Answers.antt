@@ -1,11 +1,10 @@
-use Rattle.std.proofs.Common.{◌≡◌, ◌≤◌, length, refl, arith}
+use Rattle.std.proofs.Common.{◌≤◌, length, refl, arith}
 use Rattle.std.proofs.lemmas.Result.{err_from_is_err_and}
-use Rattle.iges_file.specs.Entities.{AreColumns}
-use Rattle.iges_file.proofs.Parts.{all_weaker}
 use Rattle.solid_base.specs.declared.entities.Model.{Model}
+use Rattle.iges_cards.proofs.KeptLaws.{cards_are_kept}
 use Rattle.iges_file.proofs.AcceptedFacts.{model_accepted}
-use Rattle.iges_file.proofs.FormFacts.{form_within}
-use Rattle.iges_file.proofs.DirectoryFacts.{few_pairs, all_have_lines, all_are_entries}
+use Rattle.iges_file.proofs.FormFacts.{global_short}
+use Rattle.iges_file.proofs.DirectoryFacts.{few_pairs, all_have_lines, all_are_kept}
 use Rattle.iges_file.proofs.FirstFaults.{global_refused, directory_refused, rows_refused, lines_refused, graph_refused}
 use Rattle.iges_file.proofs.RowLoops.{entities_counted}
 use Rattle.iges_parameters.specs.Accepted.{lines_of, most_lines}
@@ -13,8 +12,7 @@ use Rattle.iges_file.proofs.model.read_file.Goals as goal
 
 pub read_global-requires : goal.read_global-requires
 read_global-requires c =
-    let within = form_within c.args.bytes.now c.in_ok-cards.cards c.in_ok-cards.ensures.fixed_form in
-    record { size = rw c.as_slice.ensures (omega (arith, within.globals, c.requires)) }
+    record { size = rw c.as_slice.ensures (omega (arith, global_short c.args.bytes.now c.in_ok-cards.cards c.in_ok-cards.ensures.fixed_form, c.requires)) }
 
 pub returns-in_err-global-clause-refused : goal.returns-in_err-global-clause-refused
 returns-in_err-global-clause-refused c =
@@ -24,13 +22,11 @@ returns-in_err-global-clause-refused c =
 
 pub overflow_cast-len : goal.overflow_cast-len
 overflow_cast-len c =
-    let within = form_within c.args.bytes.now c.in_ok-cards.cards c.in_ok-cards.ensures.fixed_form in
-    rw c.len.ensures (omega (arith, within.few, c.requires))
+    rw c.len.ensures (omega (arith, (cards_are_kept c.args.bytes.now c.in_ok-cards.cards c.in_ok-cards.ensures.fixed_form).few_params))
 
 pub read_directory-requires : goal.read_directory-requires
 read_directory-requires c =
-    let columns = (form_within c.args.bytes.now c.in_ok-cards.cards c.in_ok-cards.ensures.fixed_form).directory in
-    record { eighty = all_weaker (AreColumns 80) (λ line. length line ≡ 80) (λ line h. h.0) c.in_ok-cards.cards.directory columns }
+    record { eighty = (cards_are_kept c.args.bytes.now c.in_ok-cards.cards c.in_ok-cards.ensures.fixed_form).directory_wide }
 
 pub returns-in_err-pairs-clause-refused : goal.returns-in_err-pairs-clause-refused
 returns-in_err-pairs-clause-refused c =
@@ -49,11 +45,13 @@ read_rows-requires-clause-lines c =
 
 pub read_rows-requires-clause-entries : goal.read_rows-requires-clause-entries
 read_rows-requires-clause-entries c =
-    let form = form_within c.args.bytes.now c.in_ok-cards.cards c.in_ok-cards.ensures.fixed_form in
-    all_are_entries (length c.in_ok-cards.cards.params) c.in_ok-cards.cards.directory c.in_ok-pairs.pairs.items form.directory (rw c.len.ensures at c.in_ok-pairs.ensures.directory)
+    all_are_kept (length c.in_ok-cards.cards.params) c.args.bytes.now c.in_ok-cards.cards c.in_ok-pairs.pairs.items c.in_ok-cards.ensures.fixed_form (rw c.len.ensures at c.in_ok-pairs.ensures.directory)
 
-pub read_rows-requires-clause-params : goal.read_rows-requires-clause-params
-read_rows-requires-clause-params c = (form_within c.args.bytes.now c.in_ok-cards.cards c.in_ok-cards.ensures.fixed_form).params
+pub read_rows-requires-clause-wide : goal.read_rows-requires-clause-wide
+read_rows-requires-clause-wide c = (cards_are_kept c.args.bytes.now c.in_ok-cards.cards c.in_ok-cards.ensures.fixed_form).params_wide
+
+pub read_rows-requires-clause-plain : goal.read_rows-requires-clause-plain
+read_rows-requires-clause-plain c = (cards_are_kept c.args.bytes.now c.in_ok-cards.cards c.in_ok-cards.ensures.fixed_form).params_plain
 
 pub returns-in_err-rows-clause-refused : goal.returns-in_err-rows-clause-refused
 returns-in_err-rows-clause-refused c =

@@ -2,7 +2,8 @@ use Rattle.std.proofs.Common.{◌≡◌, List, ◌∷◌, [], ◌++◌, ◌∙�
 use Rattle.iges_directory.specs.declared.pairs.Pair.{Pair}
 use Rattle.std.specs.Arc.{arc_value}
 use Rattle.iges_parameters.specs.Accepted.{IsAcceptedEntity}
-use Rattle.iges_file.proofs.RowLoops.{entities_pushed, all_pushed}
+use Rattle.iges_parameters.proofs.TailLoop.{all_pushed}
+use Rattle.iges_file.proofs.RowLoops.{entities_pushed}
 use Rattle.iges_file.proofs.rows.read_rows.Goals as goal
 
 pub loop-pair-preserved : goal.loop-pair-preserved
