@@ -16,7 +16,7 @@ use Rattle.iges_directory.proofs.KeptGlobals.{delimiters_kept, parameters_spelt,
 use Rattle.iges_parameters.specs.Tables.{is_read}
 use Rattle.iges_parameters.specs.Writing.{IsOfRecord}
 use Rattle.iges_parameters.specs.Accepted.{IsKeptRecord, IsAcceptedEntity, IsAccepted}
-use Rattle.iges_file.specs.Entities.{entity_of, null_entity, kept_entity}
+use Rattle.iges_file.specs.Entities.{entity_of, kept_entity}
 use Rattle.iges_file.specs.Files.{Reads, global_of}
 use Rattle.iges_file.proofs.ReadRows.{IsRowWith, may_have_tail}
 use Rattle.iges_file.proofs.Blanks.{blanks_left_out, blanks_left_out_again, blanks_left_out_short}
@@ -25,19 +25,6 @@ use Rattle.iges_file.proofs.DirectoryFacts.{few_pairs}
 use Rattle.iges_file.proofs.RowLoops.{entities_counted}
 
 -- ---- entities
-
-pub null_accepted : (pair : Pair) → pair.kind ≡ 0 → IsKept pair → IsAcceptedEntity (null_entity pair)
-null_accepted pair null entry = record {
-  attributes = entry.attributes;
-  attributes_in_line = entry.in_line;
-  lawful = tt;
-  matrix = omega arith;
-  tail_spelt = tt;
-  tail_in_line = tt;
-  tail_of_row = refl;
-  blank_where_null = λ e. ap (λ (p : Pair). p.attrs) (entry.null null);
-  kept_where_unread = λ kind form matrix text e. cc;
-}
 
 -- what is kept of a row that isn't read
 abbrev UnreadOf : Row → Type 0
