@@ -14,7 +14,7 @@ use Rattle.affine_pull.specs.Chains.{chain_of}
 use Rattle.affine_pull.proofs.LawfulChains.{lawful-row, lawful-chain}
 use Rattle.solid_eval.specs.Solids.{Solid, nothing, primitive, moved, entity, combined, last_solid, tree_solid, placed_item, united, row_solid, solid_within, solid_of, HasPrimitive}
 
-module _ (rows : List Entity) (P : Solid → Type 0) (none : P nothing) (one : (e matrix : ℕ) (p : Primitive) → row_at rows e ≡ row.Prim p matrix → P (primitive e p))
+module _ (rows : List Entity) (P : Solid → Type 0) (none : P nothing) (one : (e matrix : ℕ) (p : Primitive) → row_at rows e ≡ row.Prim p matrix → P (primitive e (chain_of rows matrix) p))
     (move : (m : ℕ) (part : Solid) → P part → P (moved (chain_of rows m) part)) (around : (e : ℕ) (part : Solid) → P part → P (entity e part))
     (both : (o : Operation) (a b : Solid) → P a → P b → P (combined o a b)) where
   tree-all : (child : ℕ → Solid) → ((c : ℕ) → P (child c)) → (t : Tree) → P (tree_solid child t)
@@ -35,7 +35,7 @@ module _ (rows : List Entity) (P : Solid → Type 0) (none : P nothing) (one : (
   row-all child f e row.Null is = none
   row-all child f e (row.Opaque kind form matrix text) is = none
   row-all child f e (row.Matrix form affine next) is = none
-  row-all child f e (row.Prim p matrix) is = around e _ (move matrix _ (one e matrix p is))
+  row-all child f e (row.Prim p matrix) is = one e matrix p is
   row-all child f e (row.Tree items matrix) is = around e _ (move matrix _ (last-all child f (trees_of_items items)))
   row-all child f e (row.Assembly items matrix) is = around e _ (move matrix _ (united-all child f nothing items none))
   row-all child f e (row.Instance number matrix) is = around e _ (move matrix _ (f number))
@@ -54,14 +54,14 @@ module _ (rows : List Entity) (P : Solid → Type 0) (none : P nothing) (one : (
 -- the primitives and the matrices of a solid are in their ranges
 abbrev pub IsLawful : Solid → Type 0
 IsLawful nothing = Unit {0}
-IsLawful (primitive e p) = IsLawfulPrim p
+IsLawful (primitive e chain p) = AllByRecursion IsLawfulMatrix chain × IsLawfulPrim p
 IsLawful (moved chain part) = AllByRecursion IsLawfulMatrix chain × IsLawful part
 IsLawful (entity e part) = IsLawful part
 IsLawful (combined o a b) = IsLawful a × IsLawful b
 
 pub lawful-solid : (rows : List Entity) (e : ℕ) → AllByRecursion (λ (e : Entity). IsLawfulRow e.row) rows → IsLawful (solid_of rows e)
 lawful-solid rows e h =
-    let one : (e matrix : ℕ) (p : Primitive) → row_at rows e ≡ row.Prim p matrix → IsLawfulPrim p = λ e matrix p is. subst IsLawfulRow is (lawful-row rows e h) in
+    let one : (e matrix : ℕ) (p : Primitive) → row_at rows e ≡ row.Prim p matrix → IsLawful (primitive e (chain_of rows matrix) p) = λ e matrix p is. (lawful-chain rows matrix h, subst IsLawfulRow is (lawful-row rows e h)) in
     solid-all rows IsLawful tt one (λ m part l. (lawful-chain rows m h, l)) (λ e part l. l) (λ o a b k l. (k, l)) e
 
 -- ---- numbers
@@ -82,5 +82,5 @@ either-numbered o a b f g k (inr h) = g k h
 
 pub numbered-solid : (rows : List Entity) (e k : ℕ) → HasPrimitive (solid_of rows e) k → 0 < k
 numbered-solid rows e =
-    let one : (e matrix : ℕ) (p : Primitive) → row_at rows e ≡ row.Prim p matrix → AreNumbered (primitive e p) = λ e matrix p is k h. subst (λ n. 0 < n) (sym h) (above-zero rows e matrix p is) in
+    let one : (e matrix : ℕ) (p : Primitive) → row_at rows e ≡ row.Prim p matrix → AreNumbered (primitive e (chain_of rows matrix) p) = λ e matrix p is k h. subst (λ n. 0 < n) (sym h) (above-zero rows e matrix p is) in
     solid-all rows AreNumbered (λ k h. absurd h) one (λ m part f. f) (λ e part f. f) either-numbered e

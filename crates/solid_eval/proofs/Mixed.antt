@@ -30,7 +30,7 @@ own_number e Inside is = absurd cc
 
 pub mixed_leaf_stands : (solid : Solid) (s : Span3) → (written solid s).class ≡ Mixed → HasPrimitive solid (written solid s).leaf
 mixed_leaf_stands nothing s is = absurd cc
-mixed_leaf_stands (primitive e q) s is = own_number e (span_class (written_margins q s)) is
+mixed_leaf_stands (primitive e chain q) s is = own_number e (span_class (written_margins q (spans_through chain s))) is
 mixed_leaf_stands (moved chain part) s is = mixed_leaf_stands part (spans_through chain s) is
 mixed_leaf_stands (entity e part) s is = mixed_leaf_stands part s is
 mixed_leaf_stands (combined o a b) s is = of_side (side o (written a s).class (written b s).class (written a s).leaf (written b s).leaf is) (mixed_leaf_stands a s) (mixed_leaf_stands b s) where

@@ -12,7 +12,7 @@ use Rattle.solid_base.specs.References.{target, matrix_named, operands_of, items
 use Rattle.solid_base.specs.Trees.{union, Tree, operand}
 use Rattle.boolean_tree.specs.Spelling.{trees_of_items}
 use Rattle.boolean_tree.proofs.Spelling.{all_trees}
-use Rattle.solid_eval.specs.Solids.{Solid, nothing, moved, entity, combined, last_solid, tree_solid, solid_of_items, placed_item, united, row_solid}
+use Rattle.solid_eval.specs.Solids.{Solid, nothing, primitive, moved, entity, combined, last_solid, tree_solid, solid_of_items, placed_item, united, row_solid}
 
 -- ---- all of some references
 pub all_right : (P : ℕ → Type 0) (a b : List Reference) → AllByRecursion P (map target (a ++ b)) → AllByRecursion P (map target b)
@@ -60,7 +60,7 @@ module _ (chain other : ℕ → List Affine) (f g : ℕ → Solid) (none : chain
   same_row e row.Null h = refl
   same_row e (row.Opaque kind form matrix text) h = refl
   same_row e (row.Matrix form affine next) h = refl
-  same_row e (row.Prim p matrix) h = same_moved e matrix _ _ (same_matrix matrix h) refl
+  same_row e (row.Prim p matrix) h = ap (λ c. primitive e c p) (same_matrix matrix h)
   same_row e (row.Tree items matrix) h =
       same_moved e matrix (solid_of_items f items) (solid_of_items g items) (same_matrix matrix (all_left Same (matrix_named matrix) (operands_of items) h))
       (same_items items (all_right Same (matrix_named matrix) (operands_of items) h))

@@ -24,14 +24,18 @@ named_class e Inside = refl
 
 pub sound : (m : ℕ) (solid : Solid) (s : Span3) (p : Vec3) → 0 < m → IsLawful solid → SpansHold m s p → Decides (written solid s).class (place_class m solid p)
 sound m nothing s p parts l h = refl
-sound m (primitive e q) s p parts l h = rw (named_class e (span_class (written_margins q s))) (primitive-sound m q s p parts l h)
+sound m (primitive e chain q) s p parts l h =
+    rw (named_class e (span_class (written_margins q (spans_through chain s))))
+    (primitive-sound (parts_through m chain) q (spans_through chain s) (pulled_through m chain p) (parts-positive m chain parts) l.1 (through-held m chain s p h))
 sound m (moved chain part) s p parts l h = sound (parts_through m chain) part (spans_through chain s) (pulled_through m chain p) (parts-positive m chain parts) l.1 (through-held m chain s p h)
 sound m (entity e part) s p parts l h = sound m part s p parts l h
 sound m (combined o a b) s p parts l h = two_decides o (written a s).class (written b s).class (place_class m a p) (place_class m b p) (sound m a s p parts l.0 h) (sound m b s p parts l.1 h)
 
 pub nested : (solid : Solid) (inner outer : Span3) → IsLawful solid → AreNested inner outer → Decides (written solid outer).class (written solid inner).class
 nested nothing inner outer l h = refl
-nested (primitive e q) inner outer l h = rw (named_class e (span_class (written_margins q inner)), named_class e (span_class (written_margins q outer))) (primitive-nested q inner outer l h)
+nested (primitive e chain q) inner outer l h =
+    rw (named_class e (span_class (written_margins q (spans_through chain inner))), named_class e (span_class (written_margins q (spans_through chain outer))))
+    (primitive-nested q (spans_through chain inner) (spans_through chain outer) l.1 (through-nested chain inner outer l.0 h))
 nested (moved chain part) inner outer l h = nested part (spans_through chain inner) (spans_through chain outer) l.1 (through-nested chain inner outer l.0 h)
 nested (entity e part) inner outer l h = nested part inner outer l h
 nested (combined o a b) inner outer l h =
@@ -56,7 +60,9 @@ no_leaf Inside a b n = refl
 -- a class that isn't Mixed has no leaf
 pub leaf_zero : (solid : Solid) (s : Span3) → (written solid s).class ≢ Mixed → (written solid s).leaf ≡ 0
 leaf_zero nothing s n = refl
-leaf_zero (primitive e q) s n = named_leaf e (span_class (written_margins q s)) (λ is. n (named_class e (span_class (written_margins q s)) ∙ is))
+leaf_zero (primitive e chain q) s n =
+    let k = span_class (written_margins q (spans_through chain s)) in
+    named_leaf e k (λ is. n (named_class e k ∙ is))
 leaf_zero (moved chain part) s n = leaf_zero part (spans_through chain s) n
 leaf_zero (entity e part) s n = leaf_zero part s n
 leaf_zero (combined o a b) s n = no_leaf (class_of o (written a s).class (written b s).class) (written a s) (written b s) n

@@ -22,7 +22,7 @@ module _ (p : Primitive) (first second : Affine) where
 
   -- the primitive is moved by the matrix that its directory entry names
   abbrev pub part : Solid
-  part = entity 1 (moved (first ∷ []) (primitive 1 p))
+  part = primitive 1 (first ∷ []) p
 
   -- an instance moves its solid after that solid's own matrix, through the whole chain
   pub instance : solid_of (model (row.Instance 1 5)) 7 ≡ entity 7 (moved (second ∷ first ∷ []) part)

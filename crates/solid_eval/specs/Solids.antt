@@ -13,10 +13,10 @@ use Rattle.solid_base.specs.Trees.{Operation, union, Tree, operand, combination}
 use Rattle.boolean_tree.specs.Spelling.{trees_of_items}
 use Rattle.affine_pull.specs.Chains.{chain_of}
 
--- solidd's own: nothing; a primitive with its entity's number; a part that a chain of matrices moves; the part that is an entity; an operation on two parts, the left one first
+-- solidd's own: nothing; a primitive with its entity's number and the chain of matrices that moves it; a part that a chain of matrices moves; the part that is a tree, an assembly or an instance with its entity's number, which stands before its own chain; an operation on two parts, the left one first
 pub data Solid : Type 0 where
   nothing : Solid
-  primitive : ℕ → Primitive → Solid
+  primitive : ℕ → List Affine → Primitive → Solid
   moved : List Affine → Solid → Solid
   entity : ℕ → Solid → Solid
   combined : Operation → Solid → Solid → Solid
@@ -55,7 +55,7 @@ abbrev pub row_solid : (ℕ → List Affine) → (ℕ → Solid) → ℕ → Row
 row_solid chain child e row.Null = nothing
 row_solid chain child e (row.Opaque kind form matrix text) = nothing
 row_solid chain child e (row.Matrix form affine next) = nothing
-row_solid chain child e (row.Prim p matrix) = entity e (moved (chain matrix) (primitive e p))
+row_solid chain child e (row.Prim p matrix) = primitive e (chain matrix) p
 row_solid chain child e (row.Tree items matrix) =
     entity e (moved (chain matrix) (solid_of_items child items))
 row_solid chain child e (row.Assembly items matrix) = entity e (moved (chain matrix) (united chain child nothing items))
@@ -76,7 +76,7 @@ solid_of rows e = solid_within most_levels rows e
 -- solidd's own: k is the number of a primitive of the solid
 abbrev pub HasPrimitive : Solid → ℕ → Type 0
 HasPrimitive nothing k = ⊥
-HasPrimitive (primitive e p) k = k ≡ e
+HasPrimitive (primitive e chain p) k = k ≡ e
 HasPrimitive (moved chain part) k = HasPrimitive part k
 HasPrimitive (entity e part) k = HasPrimitive part k
 HasPrimitive (combined o a b) k = HasPrimitive a k ⊎ HasPrimitive b k

@@ -5,7 +5,7 @@ use Rattle.solid_eval.specs.Solids.{Solid, nothing, primitive, moved, entity, co
 -- solidd's own: the number of primitives of a solid, each as often as it stands
 abbrev pub leaf_count : Solid → ℕ
 leaf_count nothing = 0
-leaf_count (primitive e p) = 1
+leaf_count (primitive e chain p) = 1
 leaf_count (moved chain part) = leaf_count part
 leaf_count (entity e part) = leaf_count part
 leaf_count (combined o a b) = leaf_count a + leaf_count b

@@ -15,10 +15,10 @@ named e Outside = record { class = Outside; leaf = 0 }
 named e Mixed = record { class = Mixed; leaf = e }
 named e Inside = record { class = Inside; leaf = 0 }
 
--- solidd's own: the verdict on a solid over places in spans. A moved part is asked about the places carried back
+-- solidd's own: the verdict on a solid over places in spans. A primitive and a moved part are asked about the places carried back through their chain
 abbrev pub written : Solid → Span3 → Verdict
 written nothing s = outside
-written (primitive e q) s = named e (span_class (written_margins q s))
+written (primitive e chain q) s = named e (span_class (written_margins q (spans_through chain s)))
 written (moved chain part) s = written part (spans_through chain s)
 written (entity e part) s = written part s
 written (combined o a b) s = verdict_of o (written a s) (written b s)

@@ -11,12 +11,12 @@ use Rattle.boolean_tree.proofs.Stacks.{last_there, taken_off}
 use Rattle.boolean_tree.proofs.Steps.{operation_of}
 use Rattle.affine_pull.specs.Chains.{chain_of}
 use Rattle.affine_pull.proofs.LawfulChains.{lawful-row}
-use Rattle.solid_eval.specs.Solids.{nothing, primitive, solid_of_items, united, solid_within}
+use Rattle.solid_eval.specs.Solids.{nothing, solid_of_items, united, solid_within}
 use Rattle.solid_eval.specs.Uses.{leaf_count}
 use Rattle.solid_eval.proofs.Counting.{ticking_more, ticked, risen, risen_more, operand_counts, operation_counts, item_counts, no_operands, no_items}
 use Rattle.solid_eval.proofs.Operands.{all_items, operand_pushed, sides_there, operation_applied, all_done}
 use Rattle.solid_eval.proofs.Uniting.{uniting_item}
-use Rattle.solid_eval.proofs.Unfolding.{row_written, row_counted, none_outside}
+use Rattle.solid_eval.proofs.Unfolding.{row_written, primitive_written, row_counted, primitive_counted, none_outside}
 use Rattle.solid_eval.proofs.Uses.{items_counted, united_counted}
 use Rattle.solid_eval.proofs.walk.+entity_verdict.Goals as goal
 use Rattle.solid_eval.proofs.walk.+entity_verdict.Goals.{tree_verdict-in-Operand+in_ok-verdict-in-Operand+in_ok-push-in-Operand, tree_verdict-in-Join}
@@ -38,7 +38,7 @@ entity_verdict-tree_verdict-requires g t c κs within =
 pub entity_verdict-returns-in-Some-Prim-clause-verdict : goal.entity_verdict-returns-in-Some-Prim-clause-verdict
 entity_verdict-returns-in-Some-Prim-clause-verdict g t c =
     c.primitive_verdict.ensures.verdict
-    ∙ row_written c.args.rows.now c.args.levels c.args.e _ _ (primitive c.args.e c.in-Some-Prim.prim) (spans_of c.args.at.now) _ c.if-levels-eq0.false (c.in-Some-Prim.ensures.or_null ∙ c.in-Some-Prim.field-0-is) refl c.pull_chain-back.ensures.value
+    ∙ primitive_written c.args.rows.now c.args.levels c.args.e c.in-Some-Prim.matrix _ c.in-Some-Prim.prim (spans_of c.args.at.now) _ c.if-levels-eq0.false (c.in-Some-Prim.ensures.or_null ∙ c.in-Some-Prim.field-0-is) refl c.pull_chain-back.ensures.value
 
 pub entity_verdict-returns-in-Some-Tree-clause-verdict : goal.entity_verdict-returns-in-Some-Tree-clause-verdict
 entity_verdict-returns-in-Some-Tree-clause-verdict g t c =
@@ -60,11 +60,11 @@ entity_verdict-returns-in-Some-Instance-clause-verdict g t c =
 
 pub entity_verdict-returns-in-Some-Prim-clause-counted : goal.entity_verdict-returns-in-Some-Prim-clause-counted
 entity_verdict-returns-in-Some-Prim-clause-counted g t c =
-    subst (λ n. g.L.Ledger.count c.primitive_verdict.new.leaves ≡ counted (g.L.Ledger.count c.args.leaves.now) n) (row_counted c.args.rows.now c.args.levels c.args.e _ _ (primitive c.args.e c.in-Some-Prim.prim) c.if-levels-eq0.false (c.in-Some-Prim.ensures.or_null ∙ c.in-Some-Prim.field-0-is) refl) c.primitive_verdict.ensures.counted
+    subst (λ n. g.L.Ledger.count c.primitive_verdict.new.leaves ≡ counted (g.L.Ledger.count c.args.leaves.now) n) (primitive_counted c.args.rows.now c.args.levels c.args.e c.in-Some-Prim.matrix _ c.in-Some-Prim.prim c.if-levels-eq0.false (c.in-Some-Prim.ensures.or_null ∙ c.in-Some-Prim.field-0-is) refl) c.primitive_verdict.ensures.counted
 
 pub entity_verdict-returns-in-Some-Prim-clause-most : goal.entity_verdict-returns-in-Some-Prim-clause-most
 entity_verdict-returns-in-Some-Prim-clause-most g t c =
-    subst (RisesUpTo (g.L.Ledger.count c.args.leaves.now) (g.L.Ledger.count c.primitive_verdict.new.leaves)) (row_counted c.args.rows.now c.args.levels c.args.e _ _ (primitive c.args.e c.in-Some-Prim.prim) c.if-levels-eq0.false (c.in-Some-Prim.ensures.or_null ∙ c.in-Some-Prim.field-0-is) refl) c.primitive_verdict.ensures.most
+    subst (RisesUpTo (g.L.Ledger.count c.args.leaves.now) (g.L.Ledger.count c.primitive_verdict.new.leaves)) (primitive_counted c.args.rows.now c.args.levels c.args.e c.in-Some-Prim.matrix _ c.in-Some-Prim.prim c.if-levels-eq0.false (c.in-Some-Prim.ensures.or_null ∙ c.in-Some-Prim.field-0-is) refl) c.primitive_verdict.ensures.most
 
 pub entity_verdict-returns-in-Some-Tree-clause-counted : goal.entity_verdict-returns-in-Some-Tree-clause-counted
 entity_verdict-returns-in-Some-Tree-clause-counted g t c =
