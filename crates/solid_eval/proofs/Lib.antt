@@ -10,4 +10,6 @@ pub mod SameParts
 pub mod Levels
 pub mod Local
 pub mod Uses
+pub mod FromUses
+pub mod Heavy
 pub mod StandardFacts

@@ -80,3 +80,26 @@ HasPrimitive (primitive e chain p) k = k ≡ e
 HasPrimitive (moved chain part) k = HasPrimitive part k
 HasPrimitive (entity e part) k = HasPrimitive part k
 HasPrimitive (combined o a b) k = HasPrimitive a k ⊎ HasPrimitive b k
+
+-- ---- rows that are solids
+
+-- IGES 5.3, types 150 to 184 and 430: a primitive, a Boolean tree, an assembly and an instance are
+-- solids
+abbrev pub IsSolidRow : Row → Type 0
+IsSolidRow row.Null = ⊥
+IsSolidRow (row.Opaque kind form matrix text) = ⊥
+IsSolidRow (row.Matrix form affine next) = ⊥
+IsSolidRow (row.Prim p matrix) = Unit {0}
+IsSolidRow (row.Tree items matrix) = Unit {0}
+IsSolidRow (row.Assembly items matrix) = Unit {0}
+IsSolidRow (row.Instance number matrix) = Unit {0}
+
+-- IGES 5.3, types 150 to 168: a primitive
+abbrev pub IsPrimitiveRow : Row → Type 0
+IsPrimitiveRow row.Null = ⊥
+IsPrimitiveRow (row.Opaque kind form matrix text) = ⊥
+IsPrimitiveRow (row.Matrix form affine next) = ⊥
+IsPrimitiveRow (row.Prim p matrix) = Unit {0}
+IsPrimitiveRow (row.Tree items matrix) = ⊥
+IsPrimitiveRow (row.Assembly items matrix) = ⊥
+IsPrimitiveRow (row.Instance number matrix) = ⊥

@@ -5,6 +5,7 @@
 #![tactic(auto)]
 
 pub mod laws;
+pub mod use_laws;
 mod walk;
 
 pub use walk::afresh;
