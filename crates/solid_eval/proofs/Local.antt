@@ -1,11 +1,12 @@
 -- An entity's solid depends on nothing but the rows that it reaches.
-use Rattle.std.proofs.Common.{◌≡◌, ℕ, zero, suc, List, [], ◌∷◌, refl, ap, ◌∙◌, sym, arith}
+use Rattle.std.proofs.Common.{◌≡◌, ℕ, zero, suc, List, [], ◌∷◌, refl, ap, ◌∙◌, sym, subst, arith}
 use Rattle.std.specs.List.{AllByRecursion, Contains}
+use Rattle.std.specs.Prelude.{◌↔◌}
 use Rattle.solid_base.specs.declared.entities.Entity.{Entity}
 use Rattle.solid_base.specs.declared.geometry.Affine.{Affine}
 use Rattle.solid_base.specs.declared.solids.Row.{Row}
 use Rattle.solid_base.specs.declared.solids.Row.TheVariants as row
-use Rattle.solid_base.specs.References.{references_of, references, row_at, Refers, here, further}
+use Rattle.solid_base.specs.References.{references_of, references, row_at, Refers, Reaches, here, further}
 use Rattle.affine_pull.specs.Chains.{chain_step, chain_within, chain_of}
 use Rattle.affine_pull.proofs.Levels.{chain-none}
 use Rattle.solid_eval.specs.Solids.{row_solid, solid_within, solid_of}
@@ -19,6 +20,21 @@ all_named P (c ∷ cs) h = (h c (0, omega arith, refl), all_named P cs (λ d i. 
 -- what holds of an entity holds of those that it names
 agree_below : (rows others : List Entity) (e c : ℕ) → Agree rows others e → Refers rows e c → Agree rows others c
 agree_below rows others e c h r k reached = h k (further r reached)
+
+-- an entity reaches the same numbers twice
+reached_there : (rows others : List Entity) (e k : ℕ) → Agree rows others e → Reaches rows e k → Reaches others e k
+reached_there rows others e k h here = here
+reached_there rows others e k h (further {c = c} r reached) =
+    further (subst (λ own. Contains (references own) c) (h e here) r) (reached_there rows others c k (agree_below rows others e c h r) reached)
+
+reached_here : (rows others : List Entity) (e k : ℕ) → Agree rows others e → Reaches others e k → Reaches rows e k
+reached_here rows others e k h here = here
+reached_here rows others e k h (further {c = c} r reached) =
+    let own = subst (λ own. Contains (references own) c) (sym (h e here)) r in
+    further own (reached_here rows others c k (agree_below rows others e c h own) reached)
+
+pub same_reached : (rows others : List Entity) (e k : ℕ) → Agree rows others e → Reaches rows e k ↔ Reaches others e k
+same_reached rows others e k h = (reached_there rows others e k h, reached_here rows others e k h)
 
 -- 0 names no matrix
 none-within : (levels : ℕ) (rows : List Entity) → chain_within levels rows 0 ≡ []

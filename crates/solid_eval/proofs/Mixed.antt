@@ -17,13 +17,13 @@ use Rattle.solid_eval.proofs.AllSolids.{numbered-solid}
 use Rattle.solid_eval.proofs.Sound.{leaf_zero}
 
 -- the leaf is that of a side that is Mixed
-side : (o : Operation) (k l : Class) (i j : ℕ) → class_of o k l ≡ Mixed
+pub side : (o : Operation) (k l : Class) (i j : ℕ) → class_of o k l ≡ Mixed
     → let leaf = leaf_of (class_of o k l) (record { class = k; leaf = i }) (record { class = l; leaf = j }) in ((k ≡ Mixed) × (leaf ≡ i)) ⊎ ((l ≡ Mixed) × (leaf ≡ j))
 side o Outside l i j is = inr (other_mixed o Outside l is (λ e. cc), rw is refl)
 side o Mixed l i j is = inl (refl, rw is refl)
 side o Inside l i j is = inr (other_mixed o Inside l is (λ e. cc), rw is refl)
 
-own_number : (e : ℕ) (k : Class) → (named e k).class ≡ Mixed → (named e k).leaf ≡ e
+pub own_number : (e : ℕ) (k : Class) → (named e k).class ≡ Mixed → (named e k).leaf ≡ e
 own_number e Outside is = absurd cc
 own_number e Mixed is = refl
 own_number e Inside is = absurd cc

@@ -17,7 +17,7 @@ use Rattle.solid_eval.specs.Written.{named, written}
 use Rattle.solid_eval.proofs.AllSolids.{IsLawful}
 use Rattle.solid_eval.proofs.BoxesOfSpans.{primitive-sound, primitive-nested}
 
-named_class : (e : ℕ) (k : Class) → (named e k).class ≡ k
+pub named_class : (e : ℕ) (k : Class) → (named e k).class ≡ k
 named_class e Outside = refl
 named_class e Mixed = refl
 named_class e Inside = refl

@@ -3,7 +3,7 @@ use Rattle.solid_eval.specs.Solids.{solid_of}
 use Rattle.solid_eval.proofs.AllSolids.{numbered-solid}
 use Rattle.solid_eval.proofs.Sound.{leaf_zero}
 use Rattle.solid_eval.proofs.Mixed.{mixed_leaf_stands, is_verdict}
-use Rattle.solid_eval.proofs.laws.leaves.Goals as goal
+use Rattle.solid_eval.proofs.verdict_laws.leaves.Goals as goal
 
 pub returns : goal.returns
 returns c = record {
