@@ -33,6 +33,22 @@ same_spans s =
     ∙ ap (λ y. record { x = s.x; y = y; z = enc_span (enc_of s.z) }) (same_span s.y)
     ∙ ap (λ z. record { x = s.x; y = s.y; z = z }) (same_span s.z)
 
+-- different boxes have different spans
+one_enc : (a b : Enc) → enc_span a ≡ enc_span b → a ≡ b
+one_enc enc.All enc.All is = refl
+one_enc enc.All (enc.Span lo hi) is = absurd cc
+one_enc (enc.Span lo hi) enc.All is = absurd cc
+one_enc (enc.Span lo hi) (enc.Span low high) is = cc
+
+pub one_box : (a b : Box3) → spans_of a ≡ spans_of b → a ≡ b
+one_box a b is =
+    let x = one_enc a.x b.x (ap (λ (s : Span3). s.x) is) in
+    let y = one_enc a.y b.y (ap (λ (s : Span3). s.y) is) in
+    let z = one_enc a.z b.z (ap (λ (s : Span3). s.z) is) in
+    ap (λ (x : Enc). record { x = x; y = a.y; z = a.z }) x
+    ∙ ap (λ (y : Enc). record { x = b.x; y = y; z = a.z }) y
+    ∙ ap (λ (z : Enc). record { x = b.x; y = b.y; z = z }) z
+
 -- ---- a primitive's class over spans decides that of each place in them
 decides_by : (k c : Class) → (k ≡ Inside → c ≡ Inside) → (k ≡ Outside → c ≡ Outside) → Decides k c
 decides_by Outside c inside out = out refl

@@ -12,4 +12,6 @@ pub mod Local
 pub mod Uses
 pub mod FromUses
 pub mod Heavy
+pub mod Causes
+pub mod Sharp
 pub mod StandardFacts

@@ -3,3 +3,4 @@ pub mod Classes
 pub mod Written
 pub mod Uses
 pub mod Locality
+pub mod Causes
