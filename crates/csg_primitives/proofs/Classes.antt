@@ -10,21 +10,21 @@ use Rattle.csg_primitives.specs.Classes.{is_positive, is_negative, exact_class}
 pub positive_in : (m : ℤ) → pos 0 <ℤ m → is_positive m ≡ true
 positive_in m h = grind (arith, ints)
 
-positive_out : (m : ℤ) → is_positive m ≡ true → pos 0 <ℤ m
+pub positive_out : (m : ℤ) → is_positive m ≡ true → pos 0 <ℤ m
 positive_out m h = grind (arith, ints)
 
 pub negative_in : (m : ℤ) → m <ℤ pos 0 → is_negative m ≡ true
 negative_in m h = grind (arith, ints)
 
-negative_out : (m : ℤ) → is_negative m ≡ true → m <ℤ pos 0
+pub negative_out : (m : ℤ) → is_negative m ≡ true → m <ℤ pos 0
 negative_out m h = grind (arith, ints)
 
-if_inside : (a b : Bool) → cond a Inside (cond b Outside Mixed) ≡ Inside → a ≡ true
+pub if_inside : (a b : Bool) → cond a Inside (cond b Outside Mixed) ≡ Inside → a ≡ true
 if_inside true b e = refl
 if_inside false true e = cc
 if_inside false false e = cc
 
-if_outside : (a b : Bool) → cond a Inside (cond b Outside Mixed) ≡ Outside → b ≡ true
+pub if_outside : (a b : Bool) → cond a Inside (cond b Outside Mixed) ≡ Outside → b ≡ true
 if_outside true b e = cc
 if_outside false true e = refl
 if_outside false false e = cc

@@ -6,6 +6,11 @@ pub mod SpansNest
 pub mod MarginsNest
 pub mod SpansHold
 pub mod Squaring
+pub mod Around
+pub mod Following
+pub mod Steady
+pub mod SteadyMargins
+pub mod Interior
 pub mod MarginsHold
 pub mod RootMargins
 pub mod RatioMargins

@@ -5,3 +5,4 @@ pub mod ExactMargins
 pub mod WrittenFrames
 pub mod WrittenMargins
 pub mod Sharpness
+pub mod Neighbours

@@ -1,4 +1,4 @@
-ghost use Rattle.std.specs.Prelude.{◌≡◌, ◌≢◌, ◌↔◌, ◌<◌, ℕ, pos};
+ghost use Rattle.std.specs.Prelude.{◌≡◌, ◌≢◌, ◌↔◌, ◌<◌, ◌*◌, ℕ, pos};
 ghost use Rattle.std.specs.List.{All, Any};
 ghost use Rattle.solid_base.specs.declared.geometry.Vec3.{Vec3};
 ghost use Rattle.solid_base.specs.declared.classes.Class.{Class};
@@ -10,6 +10,7 @@ ghost use Rattle.fixed_enclosure.specs.declared.enclosures.Sign.{Sign};
 ghost use Rattle.fixed_enclosure.specs.Spans.{Span, Holds, BoxHolds, IsBox, IsBoxIn, box_of};
 ghost use Rattle.fixed_enclosure.specs.Values.{sign_of};
 ghost use Rattle.csg_primitives.specs.ExactMargins.{primitive_class};
+ghost use Rattle.csg_primitives.specs.Neighbours.{IsNear, Around};
 ghost use Rattle.csg_primitives.specs.Sharpness.{IsSharp, point_cube};
 ghost use Rattle.fixed_enclosure.specs.Places.{spans_of};
 ghost use Rattle.csg_primitives.specs.WrittenMargins.{written_margins, written_class};
@@ -50,4 +51,23 @@ pub fn nesting()
 pub fn sharpness()
     ensures exact { (p : Primitive) (at : Vec3) → IsLawfulPrim p → IsSharp p → IsPointWithin far at →
         written_class p (box_of (point_cube at)) ≡ primitive_class 1 p at }
+{}
+
+/// A place lies inside a primitive exactly where all places in a neighbourhood of it do, at every
+/// finer scale, and outside exactly where all these lie outside. The place is counted in parts, of
+/// which `m` are one step, and each place near it in parts that are `n` times finer.
+pub fn interior()
+    ensures inside { (m : ℕ) (p : Primitive) (at : Vec3) →
+        (primitive_class m p at ≡ Class.Inside) ↔
+        Around at (λ n near. primitive_class (n * m) p near ≡ Class.Inside) }
+    ensures outside { (m : ℕ) (p : Primitive) (at : Vec3) →
+        (primitive_class m p at ≡ Class.Outside) ↔
+        Around at (λ n near. primitive_class (n * m) p near ≡ Class.Outside) }
+{}
+
+/// The class of a place is the same however finely its coordinates are counted: in parts, of which
+/// `m` are one step, or in parts that are `n` times finer.
+pub fn scale()
+    ensures { (m n : ℕ) (p : Primitive) (at same : Vec3) → 0 < n → IsNear n 0 at same →
+        primitive_class (n * m) p same ≡ primitive_class m p at }
 {}
