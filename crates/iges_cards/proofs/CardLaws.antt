@@ -52,7 +52,7 @@ own_form None section.Parameter = refl
 own_form None section.Terminate = refl
 own_form (Some s) next = refl
 
-named_again : (next : Section) → section_of (letter_of next) ≡ Some next
+pub named_again : (next : Section) → section_of (letter_of next) ≡ Some next
 named_again section.Start = refl
 named_again section.Global = refl
 named_again section.Directory = refl
@@ -76,7 +76,7 @@ named_case letter s next more true e f h =
     test_same letter (letter_of s) e ∙ ap letter_of same
 named_case letter s next more false e f h = f h
 
-named_takes : (letter : ℕ) (next : Section) → section_of letter ≡ Some next → letter ≡ letter_of next
+pub named_takes : (letter : ℕ) (next : Section) → section_of letter ≡ Some next → letter ≡ letter_of next
 named_takes letter next h =
     named_case letter section.Start next _ (letter == 83) refl (
     named_case letter section.Global next _ (letter == 71) refl (
@@ -100,11 +100,11 @@ pub record IsNext (before : Option Section) (counts : Counts) (next : Section) (
   pub letter : slice_index columns 72 ≡ letter_of next
   pub sequence : IsNumber (count_of counts next + 1) (drop 73 columns)
 
-same_again : (o : Option ℕ) (n : ℕ) → o ≡ Some n → is_same o n ≡ true
+pub same_again : (o : Option ℕ) (n : ℕ) → o ≡ Some n → is_same o n ≡ true
 same_again None n h = cc
 same_again (Some m) n h = let same : m ≡ n = cc in rw same (same_test n)
 
-same_takes : (o : Option ℕ) (n : ℕ) → is_same o n ≡ true → o ≡ Some n
+pub same_takes : (o : Option ℕ) (n : ℕ) → is_same o n ≡ true → o ≡ Some n
 same_takes None n h = cc
 same_takes (Some m) n h = ap Some (test_same m n h)
 
@@ -158,7 +158,7 @@ group_takes named count (b ∷ bs) h =
     let (letter, number) = passed (b == letter_of named) (number_in bs) count h in
     record { field = bs; spelt = ap (λ c. c ∷ bs) (test_same b (letter_of named) letter); number = number_takes count bs number }
 
-told_again : (counts : Counts) (columns : List ℕ) → HasGroups counts columns → told_in columns ≡ Ok counts
+pub told_again : (counts : Counts) (columns : List ℕ) → HasGroups counts columns → told_in columns ≡ Ok counts
 unfolding told_in
 told_again counts columns h =
     rw (
@@ -177,7 +177,7 @@ told_all (Some s) None d p counts h = cc
 told_all (Some s) (Some g) None p counts h = cc
 told_all (Some s) (Some g) (Some d) None counts h = cc
 
-told_takes : (counts : Counts) (columns : List ℕ) → told_in columns ≡ Ok counts → HasGroups counts columns
+pub told_takes : (counts : Counts) (columns : List ℕ) → told_in columns ≡ Ok counts → HasGroups counts columns
 unfolding told_in
 told_takes counts columns h =
     let (s, g, d, p) = told_all (group_in 83 (take 8 columns)) (group_in 71 (take 8 (drop 8 columns))) (group_in 68 (take 8 (drop 16 columns))) (group_in 80 (take 8 (drop 24 columns))) counts h in

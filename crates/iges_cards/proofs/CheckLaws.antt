@@ -61,3 +61,9 @@ same_pair {A} {B} x a y b h =
 pub both_gave : {A B : Type 0} (o : Result A CardFault) (f : A → Result B CardFault) (y : B) → (o >>= f) ≡ Ok y → (x : A) × (o ≡ Ok x) × (f x ≡ Ok y)
 both_gave (Ok x) f y h = (x, refl, h)
 both_gave (Err e) f y h = cc
+
+-- where a check gave nothing it gave a fault
+pub some_fault : {A : Type 0} (o : Result A CardFault) → ((x : A) → o ≡ Ok x → ⊥)
+    → (f : CardFault) × (o ≡ Err f)
+some_fault (Ok x) h = absurd (h x refl)
+some_fault (Err f) h = (f, refl)

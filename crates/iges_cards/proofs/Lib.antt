@@ -1,10 +1,13 @@
 pub mod AgainLaws
 pub mod CardLaws
 pub mod CheckLaws
-pub mod FaultLaws
+pub mod Defects
+pub mod DefectLaws
 pub mod LineLaws
 pub mod NumberLaws
+pub mod StandardFacts
 pub mod Steps
 pub mod TakesLaws
 pub mod FirstFeeds
+pub mod FirstFaultLaws
 pub mod KeptLaws

@@ -37,7 +37,7 @@ reads_count_fault before counts cards place text texts columns f e t = rw (e, t)
 
 -- ---- the same, as a loop does it over the bytes that are left
 
-is_last : (next : Section) → is_terminate next ≡ true → next ≡ section.Terminate
+pub is_last : (next : Section) → is_terminate next ≡ true → next ≡ section.Terminate
 is_last section.Terminate h = refl
 is_last section.Start h = cc
 is_last section.Global h = cc

@@ -1,4 +1,5 @@
 pub mod Checks
+pub mod FirstFault
 pub mod Grammar
 pub mod Kept
 pub mod Lines

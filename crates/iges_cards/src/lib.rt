@@ -14,5 +14,5 @@ mod sections;
 mod tests;
 
 pub use faults::CardFault;
-pub use laws::{kept_lines, one_reading};
+pub use laws::{kept_lines, one_fault, one_reading};
 pub use reader::{Cards, read_cards};

@@ -1,4 +1,5 @@
-ghost use Rattle.std.specs.Prelude.{◌≡◌, ◌++◌, ◌∷◌, [], length, IfOk, IfErr, OnOk, Ok, Err};
+ghost use Rattle.std.specs.Prelude.{◌≡◌, ◌++◌, ◌∷◌, [], length, IfOk, IfErr, OnOk, Err};
+ghost use Rattle.iges_cards.specs.FirstFault.{IsCardFault};
 ghost use Rattle.iges_cards.specs.Grammar.{IsFixedForm};
 ghost use Rattle.iges_cards.specs.Reading.{keep, no_cards, cards_in};
 ghost use Rattle.iges_cards.specs.Words.{IsOfText};
@@ -72,9 +73,9 @@ impl<'a> Cards<'a> {
 /// then BadTerminate and CountMismatch. NoTerminate comes where no line has a fault and there is no
 /// T line. Memory comes when out of memory.
 pub fn read_cards<'a>(alloc: Global, bytes: &'a [u8]) -> Result<Cards<'a>, CardFault>
-    ensures found { IfOk result (λ cards. cards_in bytes.now ≡ Ok cards) }
-    ensures first_fault { IfErr result (λ fault. IsOfText fault → cards_in bytes.now ≡ Err fault) }
     ensures fixed_form { IfOk result (λ cards. IsFixedForm bytes.now cards) }
+    ensures first_fault { IfErr result (λ fault. IsOfText fault → IsCardFault bytes.now fault) }
+    ensures read_fault { IfErr result (λ fault. IsOfText fault → cards_in bytes.now ≡ Err fault) }
 {
     let mut cards = Cards::new(alloc);
     let mut counts = Counts::new();

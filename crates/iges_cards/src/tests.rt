@@ -1,4 +1,4 @@
-use crate::{CardFault, one_reading, read_cards};
+use crate::{CardFault, one_fault, one_reading, read_cards};
 use solid_base::Bytes;
 use std::alloc::{AllocError, Global};
 use std::test::Fail;
@@ -39,6 +39,7 @@ const P: Line = ("158,1.,,,;", "P      1", "\n");
 #[test]
 fn first_faults(rt: HostRuntime) -> Result<(), Fail> {
     one_reading();
+    one_fault();
     let alloc = rt.alloc();
     let cases: [(&[Line], &str); 29] = [
         (&[], "NoTerminate"),
