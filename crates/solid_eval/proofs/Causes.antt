@@ -1,9 +1,7 @@
 -- An open verdict has an open use of the primitive that it names.
-use Rattle.std.proofs.Common.{◌≡◌, ◌⊎◌, ◌<◌, ℕ, zero, suc, List, [], ◌∷◌, ◌++◌, length, inl, inr, refl, sym, subst, ap, ◌∙◌, arith, pos}
+use Rattle.std.proofs.Common.{◌≡◌, ◌⊎◌, ℕ, zero, suc, List, [], ◌∷◌, ◌++◌, inl, inr, refl, sym, subst, ap, ◌∙◌, arith}
 use Rattle.std.specs.List.{Any}
-use Rattle.std.specs.Prelude.{◌↔◌}
-use Rattle.solid_base.specs.declared.classes.Class.{Class}
-use Rattle.solid_base.specs.declared.classes.Class.TheVariants.{Outside, Mixed, Inside}
+use Rattle.solid_base.specs.declared.classes.Class.TheVariants.{Mixed}
 use Rattle.solid_base.specs.declared.entities.Entity.{Entity}
 use Rattle.solid_base.specs.declared.solids.Primitive.{Primitive}
 use Rattle.solid_base.specs.declared.solids.Row.TheVariants as row
@@ -13,9 +11,9 @@ use Rattle.fixed_enclosure.specs.Places.{Span3}
 use Rattle.csg_primitives.specs.WrittenMargins.{span_class, written_margins}
 use Rattle.csg_primitives.proofs.SpanClasses.{mixed-cause}
 use Rattle.affine_pull.specs.Chains.{chain_of, spans_through}
-use Rattle.solid_eval.specs.Solids.{Solid, nothing, primitive, moved, entity, combined, solid_of}
-use Rattle.solid_eval.specs.Uses.{Use, uses, use_verdict}
-use Rattle.solid_eval.specs.Written.{named, written}
+use Rattle.solid_eval.specs.Solids.{Solid, primitive, combined, solid_of}
+use Rattle.solid_eval.specs.Uses.{uses}
+use Rattle.solid_eval.specs.Written.{written}
 use Rattle.solid_eval.specs.Causes.{TouchesZero, IsOpenUse}
 use Rattle.solid_eval.proofs.AllSolids.{solid-all}
 use Rattle.solid_eval.proofs.FromUses.{primitive_solid}

@@ -1,7 +1,6 @@
 pub mod Counting
 pub mod Operands
 pub mod Uniting
-pub mod Unfolding
 pub mod AllSolids
 pub mod BoxesOfSpans
 pub mod Sound
@@ -14,4 +13,5 @@ pub mod FromUses
 pub mod Heavy
 pub mod Causes
 pub mod Sharp
+pub mod Taken
 pub mod StandardFacts

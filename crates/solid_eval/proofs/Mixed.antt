@@ -48,8 +48,3 @@ leaf_of_class Inside n some none = none (λ e. cc)
 pub is_verdict : (rows : List Entity) (e : ℕ) (s : Span3) → IsVerdict (written (solid_of rows e) s)
 is_verdict rows e s =
     leaf_of_class _ _ (λ mixed. numbered-solid rows e _ (mixed_leaf_stands (solid_of rows e) s mixed)) (leaf_zero (solid_of rows e) s)
-
--- and so does what a call answers
-pub answers_verdict : {E : Type 0} (result : Result Verdict E) (rows : List Entity) (e : ℕ) (s : Span3) → IfOk result (λ v. v ≡ written (solid_of rows e) s) → IfOk result IsVerdict
-answers_verdict (Ok v) rows e s is = subst IsVerdict (sym is) (is_verdict rows e s)
-answers_verdict (Err x) rows e s is = tt

@@ -4,3 +4,4 @@ pub mod Written
 pub mod Uses
 pub mod Locality
 pub mod Causes
+pub mod Taking

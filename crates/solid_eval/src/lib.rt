@@ -1,17 +1,19 @@
 //! The verdict on an entity over a box, by a walk along its references to the primitives.
 //! Contracts see the plain tree that an entity unfolds into, and by recursion on it the verdict and
 //! how many primitives are evaluated and counted. That the verdict tells the class of each place in
-//! the box, and of each box within, are `laws`. Files in reading order: walk, laws, verdict_laws,
-//! use_laws, unfolding_laws.
+//! the box, and of each box within, are `laws`. Files in reading order: leaves, walk,
+//! evaluation, laws, verdict_laws, use_laws, unfolding_laws.
 #![tactic(auto)]
 
+mod evaluation;
 pub mod laws;
+mod leaves;
 pub mod unfolding_laws;
 pub mod use_laws;
 pub mod verdict_laws;
 mod walk;
 
-pub use walk::afresh;
+pub use evaluation::{afresh, combine, primitive_verdict};
 
 #[cfg(test)]
 mod tests;
