@@ -1,0 +1,5 @@
+pub mod StandardFacts
+pub mod Cuts
+pub mod Orders
+pub mod Extremes
+pub mod Filling
