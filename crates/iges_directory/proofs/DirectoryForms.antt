@@ -50,7 +50,7 @@ pairs_take params (one ∷ two ∷ lines) read found even few h =
     let (pairs, whole, others, most) = all in
     (pair ∷ pairs, whole ∙ append_assoc read (pair ∷ []) pairs, (is, others), most)
 
-is_even : (n : ℕ) → not ((n % 2) == 0) ≡ false → n % 2 ≡ 0
+pub is_even : (n : ℕ) → not ((n % 2) == 0) ≡ false → n % 2 ≡ 0
 is_even n h = go ((n % 2) == 0) refl h where
   go : (v : Bool) → ((n % 2) == 0) ≡ v → not v ≡ false → n % 2 ≡ 0
   go true e h = test_same (n % 2) 0 e

@@ -3,7 +3,8 @@ pub mod FieldLaws
 pub mod GlobalLaws
 pub mod FieldSteps
 pub mod DirectoryForms
-pub mod FaultForms
+pub mod PairFaults
+pub mod FirstFaultLaws
 pub mod NumberForms
 pub mod PairForms
 pub mod PairSteps

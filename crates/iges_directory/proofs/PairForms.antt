@@ -1,5 +1,5 @@
 -- Entries: what is spelt is read, and what is read is spelt.
-use Rattle.std.proofs.Common.{◌≡◌, ◌≢◌, ◌⊎◌, inl, inr, ℕ, ◌+◌, ◌-◌, ◌≤◌, List, Bool, true, false, cond, ◌&&◌, ◌||◌, ◌==◌, nat_le, nat_lt, Option, Some, None, Result, Ok, Err, refl, sym, ap, subst, ◌∙◌, arith}
+use Rattle.std.proofs.Common.{◌≡◌, ◌≢◌, ◌⊎◌, inl, inr, ℕ, ◌+◌, ◌-◌, ◌≤◌, ◌<◌, List, Bool, true, false, cond, ◌&&◌, ◌||◌, ◌==◌, nat_le, nat_lt, Option, Some, None, Result, Ok, Err, refl, sym, ap, subst, ◌∙◌, arith}
 use Rattle.std.specs.List.{list_all}
 use Rattle.solid_base.specs.Spelling.{is_blank, AreBlanks}
 use Rattle.solid_base.proofs.Prefix.{both}
@@ -21,22 +21,28 @@ le_test a b h = grind arith
 test_le : (a b : ℕ) → nat_le a b ≡ true → a ≤ b
 test_le a b h = grind arith
 
+pub lt_test : (a b : ℕ) → a < b → nat_lt a b ≡ true
+lt_test a b h = grind arith
+
+pub test_lt : (a b : ℕ) → nat_lt a b ≡ true → a < b
+test_lt a b h = grind arith
+
 pub not_lt_test : (a b : ℕ) → b ≤ a → nat_lt a b ≡ false
 not_lt_test a b h = grind arith
 
 pub at_least : (a b : ℕ) → nat_lt a b ≡ false → b ≤ a
 at_least a b h = grind arith
 
-same_test : (n : ℕ) → (n == n) ≡ true
+pub same_test : (n : ℕ) → (n == n) ≡ true
 same_test n = grind arith
 
 pub test_same : (n m : ℕ) → (n == m) ≡ true → n ≡ m
 test_same n m h = grind arith
 
-other_test : (n m : ℕ) → n ≢ m → (n == m) ≡ false
+pub other_test : (n m : ℕ) → n ≢ m → (n == m) ≡ false
 other_test n m h = grind arith
 
-test_other : (n m : ℕ) → (n == m) ≡ false → n ≢ m
+pub test_other : (n m : ℕ) → (n == m) ≡ false → n ≢ m
 test_other n m h = grind arith
 
 pub no_fault : {A : Type 0} (v : Bool) (x : Result A DirFault) (f : DirFault) (y : A) → cond v x (Err f) ≡ Ok y → (v ≡ true) × (x ≡ Ok y)
@@ -54,7 +60,7 @@ both_gave (Err e) f y h = cc
 
 -- ---- a field
 
-within_again : (entity k least most n : ℕ) (columns : List ℕ) → HoldsWithin least most n columns → within entity k least most (number_in columns) ≡ Ok n
+pub within_again : (entity k least most n : ℕ) (columns : List ℕ) → HoldsWithin least most n columns → within entity k least most (number_in columns) ≡ Ok n
 unfolding within
 within_again entity k least most n columns h = rw (number_again n columns h.number, le_test least n h.at_least, le_test n most h.at_most) refl
 
@@ -67,7 +73,7 @@ read_within entity k least most n (Some m) h =
     let same : m ≡ n = cc in
     (ap Some same, subst (λ x. least ≤ x) same (test_le least m low), subst (λ x. x ≤ most) same (test_le m most high))
 
-within_takes : (entity k least most n : ℕ) (columns : List ℕ) → within entity k least most (number_in columns) ≡ Ok n → HoldsWithin least most n columns
+pub within_takes : (entity k least most n : ℕ) (columns : List ℕ) → within entity k least most (number_in columns) ≡ Ok n → HoldsWithin least most n columns
 within_takes entity k least most n columns h =
     let (value, low, high) = read_within entity k least most n (number_in columns) h in
     record { number = number_takes n columns value; at_least = low; at_most = high }
@@ -85,14 +91,14 @@ or_cases : (v w : Bool) → v || w ≡ true → (v ≡ true) ⊎ (w ≡ true)
 or_cases true w h = inl refl
 or_cases false w h = inr h
 
-type_again : (entity kind : ℕ) (one two : List ℕ) → IsOfType kind one two → type_in entity one two ≡ Ok kind
+pub type_again : (entity kind : ℕ) (one two : List ℕ) → IsOfType kind one two → type_in entity one two ≡ Ok kind
 unfolding type_in
 type_again entity kind one two h = elim h.second [
   | inl s ↦ rw (within_again entity 1 0 99999 kind (field 1 one) h.first, within_again entity 11 0 99999 kind (field 1 two) s, same_test kind) refl
   | inr b ↦ rw (within_again entity 1 0 99999 kind (field 1 one) h.first, within_again entity 11 0 99999 0 (field 1 two) (blank_zero (field 1 two) b), or_right (0 == kind) (list_all is_blank (field 1 two)) (all_test is_blank (field 1 two) b)) refl
 ]
 
-type_takes : (entity kind : ℕ) (one two : List ℕ) → type_in entity one two ≡ Ok kind → IsOfType kind one two
+pub type_takes : (entity kind : ℕ) (one two : List ℕ) → type_in entity one two ≡ Ok kind → IsOfType kind one two
 unfolding type_in
 type_takes entity kind one two h =
     let (k, first, more) = both_gave (within entity 1 0 99999 (number_in (field 1 one))) (λ kind. within entity 11 0 99999 (number_in (field 1 two)) >>= λ again. cond ((again == kind) || list_all is_blank (field 1 two)) (Ok kind) (Err (fault.TypeDiffers entity))) kind h in

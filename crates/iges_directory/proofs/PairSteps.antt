@@ -1,37 +1,29 @@
 -- How reading goes on from pair to pair.
-use Rattle.std.proofs.Common.{◌≡◌, ◌≢◌, ℕ, zero, suc, ◌+◌, ◌*◌, ◌%◌, ◌<◌, ◌≤◌, ◌==◌, nat_lt, List, [], ◌∷◌, ◌++◌, true, false, length, drop, slice_get, Some, Result, Ok, Err, refl, sym, ap, subst, ◌∙◌, arith}
+use Rattle.std.proofs.Common.{◌≡◌, ◌≢◌, ℕ, zero, suc, ◌+◌, ◌*◌, ◌%◌, ◌<◌, ◌≤◌, ◌==◌, List, [], ◌∷◌, ◌++◌, true, false, length, drop, slice_get, Some, Result, Ok, Err, refl, sym, ap, subst, ◌∙◌, arith}
 use Rattle.std.specs.List.{AllByRecursion}
 use Rattle.iges_directory.specs.declared.directory_faults.DirFault.{DirFault}
 use Rattle.iges_directory.specs.declared.directory_faults.DirFault.TheVariants as fault
 use Rattle.iges_directory.specs.declared.pairs.Pair.{Pair}
 use Rattle.iges_directory.specs.Pairs.{text_of}
 use Rattle.iges_directory.specs.DirectoryReading.{pair_in, pairs_from, directory_in}
-
-not_same : (n m : ℕ) → n ≢ m → (n == m) ≡ false
-not_same n m h = grind arith
+use Rattle.iges_directory.proofs.PairForms.{lt_test, not_lt_test, same_test, other_test}
 
 same : (n m : ℕ) → n ≡ m → (n == m) ≡ true
-same n m h = grind arith
-
-less : (n m : ℕ) → n < m → nat_lt n m ≡ true
-less n m h = grind arith
-
-not_less : (n m : ℕ) → m ≤ n → nat_lt n m ≡ false
-not_less n m h = grind arith
+same n m h = rw h (same_test m)
 
 -- ---- before the first pair
 
 pub is_odd : (params : ℕ) (lines : List (List ℕ)) → length lines % 2 ≢ 0 → directory_in params lines ≡ Err fault.OddLines
 unfolding directory_in
-is_odd params lines h = rw (not_same (length lines % 2) 0 h) refl
+is_odd params lines h = rw (other_test (length lines % 2) 0 h) refl
 
 pub too_many : (params : ℕ) (lines : List (List ℕ)) → length lines % 2 ≡ 0 → 200000 < length lines → directory_in params lines ≡ Err fault.TooManyEntities
 unfolding directory_in
-too_many params lines h k = rw (same (length lines % 2) 0 h, less 200000 (length lines) k) refl
+too_many params lines h k = rw (same (length lines % 2) 0 h, lt_test 200000 (length lines) k) refl
 
 pub starts : (params : ℕ) (lines : List (List ℕ)) → length lines % 2 ≡ 0 → length lines ≤ 200000 → pairs_from params [] lines ≡ directory_in params lines
 unfolding directory_in
-starts params lines h k = rw (same (length lines % 2) 0 h, not_less 200000 (length lines) k) refl
+starts params lines h k = rw (same (length lines % 2) 0 h, not_lt_test 200000 (length lines) k) refl
 
 -- ---- a pair
 

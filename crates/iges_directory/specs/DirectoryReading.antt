@@ -1,5 +1,6 @@
--- The order in which a directory is checked, which is solidd's own: the number of lines, then its
--- pairs one by one; of a pair the type, the parameter lines, the matrix and the form.
+-- How a directory is read, in the order of checks, which is solidd's own: the number of lines, then
+-- its pairs one by one; of a pair the type, the parameter lines, the matrix and the form. What an
+-- entry is stands in Pairs, and what a first fault is in FirstFaults.
 use Rattle.std.specs.Prelude.{ℕ, ◌+◌, ◌-◌, ◌*◌, List, [], ◌∷◌, ◌++◌, cond, ◌==◌, ◌&&◌, ◌||◌, not, nat_le, nat_lt, ◌%◌, length, Option, None, Some, Result, Ok, Err}
 use Rattle.std.specs.List.{list_all}
 use Rattle.solid_base.specs.Outcomes.{◌>>=◌}

@@ -6,4 +6,5 @@ pub mod DirectoryFaults
 pub mod ColumnNumbers
 pub mod Pairs
 pub mod DirectoryReading
+pub mod FirstFaults
 pub mod Kept

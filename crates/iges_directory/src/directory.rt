@@ -1,8 +1,8 @@
-ghost use Rattle.std.specs.Prelude.{◌≡◌, ◌++◌, ◌∷◌, [], length, OnOk, IfOk, IfErr, Ok, Err};
+ghost use Rattle.std.specs.Prelude.{◌≡◌, ◌++◌, ◌∷◌, [], length, OnOk, IfOk, IfErr};
 ghost use Rattle.std.specs.List.{AllByRecursion};
 ghost use Rattle.iges_directory.specs.DirectoryFaults.{IsOfText};
 ghost use Rattle.iges_directory.specs.Pairs.{IsDirectory};
-ghost use Rattle.iges_directory.specs.DirectoryReading.{directory_in};
+ghost use Rattle.iges_directory.specs.FirstFaults.{IsDirectoryFault};
 
 use crate::directory_faults::DirFault;
 use crate::pairs::{Pair, pair_in};
@@ -38,10 +38,9 @@ pub fn read_directory(
     params: u32,
 ) -> Result<Vec<Pair>, DirFault>
     requires eighty { AllByRecursion (λ line. length line ≡ 80) lines.now }
-    ensures found { IfOk result (λ pairs. directory_in params lines.now ≡ Ok pairs.items) }
-    ensures first_fault { IfErr result (λ fault. IsOfText fault →
-        directory_in params lines.now ≡ Err fault) }
     ensures directory { IfOk result (λ pairs. IsDirectory params lines.now pairs.items) }
+    ensures first_fault { IfErr result (λ fault. IsOfText fault →
+        IsDirectoryFault params lines.now fault) }
 {
     if lines.len() % 2 != 0 {
         return Err(DirFault::OddLines);

@@ -13,6 +13,7 @@ ghost use Rattle.iges_directory.specs.DirectoryFaults.{IsOfText};
 ghost use Rattle.iges_directory.specs.Kept.{AreColumns, IsKept};
 ghost use Rattle.iges_directory.specs.Pairs.{IsDirectory};
 ghost use Rattle.iges_directory.specs.DirectoryReading.{directory_in};
+ghost use Rattle.iges_directory.specs.FirstFaults.{IsDirectoryFault};
 
 /// A law on all texts: each is a global section, or has a first faulty parameter, and never both. A
 /// global section has one reading, and the first faulty parameter one index.
@@ -25,19 +26,29 @@ pub fn one_global_section()
         ((global : GlobalText) × IsGlobal text global) ⊎ ((n : ℕ) × IsFirstFault n text) }
 {}
 
-/// A law on all lines: they are a directory, with one list of entries, or they have a first fault,
-/// and never both.
+/// A law on all lines: they are a directory or have a first fault, and never both. A directory has
+/// one list of entries, and other lines one first fault, which isn't out of memory.
 pub fn one_directory()
-    ensures read { (params : ℕ) (lines : List (List ℕ)) (pairs : List Pair) →
-        IsDirectory params lines pairs ↔ (directory_in params lines ≡ Ok pairs) }
     ensures once { (params : ℕ) (lines : List (List ℕ)) (a b : List Pair) →
         IsDirectory params lines a → IsDirectory params lines b → a ≡ b }
-    ensures refused { (params : ℕ) (lines : List (List ℕ)) (fault : DirFault) →
-        directory_in params lines ≡ Err fault → IsOfText fault × ((pairs : List Pair) →
-        IsDirectory params lines pairs → ⊥) }
-    ensures faulty { (params : ℕ) (lines : List (List ℕ)) → ((pairs : List Pair) →
-        IsDirectory params lines pairs → ⊥) →
-        (fault : DirFault) × (directory_in params lines ≡ Err fault) }
+    ensures first { (params : ℕ) (lines : List (List ℕ)) (f g : DirFault) →
+        IsDirectoryFault params lines f → IsDirectoryFault params lines g → f ≡ g }
+    ensures of_text { (params : ℕ) (lines : List (List ℕ)) (fault : DirFault) →
+        IsDirectoryFault params lines fault → IsOfText fault }
+    ensures apart { (params : ℕ) (lines : List (List ℕ)) (pairs : List Pair) (fault : DirFault) →
+        IsDirectory params lines pairs → IsDirectoryFault params lines fault → ⊥ }
+    ensures one_of_both { (params : ℕ) (lines : List (List ℕ)) →
+        ((pairs : List Pair) × IsDirectory params lines pairs) ⊎
+        ((fault : DirFault) × IsDirectoryFault params lines fault) }
+{}
+
+/// A law on all lines: reading them in the order of checks gives the entries exactly where they are
+/// a directory with these, and a fault exactly where it is their first.
+pub fn read_in_order()
+    ensures entries { (params : ℕ) (lines : List (List ℕ)) (pairs : List Pair) →
+        IsDirectory params lines pairs ↔ (directory_in params lines ≡ Ok pairs) }
+    ensures fault { (params : ℕ) (lines : List (List ℕ)) (fault : DirFault) →
+        IsDirectoryFault params lines fault ↔ (directory_in params lines ≡ Err fault) }
 {}
 
 /// A law on all global sections: their delimiters are lawful and differ, and their parameters are

@@ -15,7 +15,8 @@ use Rattle.iges_directory.specs.declared.pairs.Pair.{Pair}
 use Rattle.iges_directory.specs.Global.{IsGlobal, IsFaultOf}
 use Rattle.iges_directory.specs.Pairs.{IsDirectory}
 use Rattle.iges_directory.specs.DirectoryFaults as directories
-use Rattle.iges_directory.specs.DirectoryReading.{directory_in}
+use Rattle.iges_directory.specs.FirstFaults.{IsDirectoryFault}
+use Rattle.iges_directory.proofs.FirstFaultLaws.{fault_again}
 use Rattle.entity_graph.specs.declared.graph_faults.GraphFault.{GraphFault}
 use Rattle.entity_graph.specs.declared.graph_faults.GraphFault.TheVariants as graph
 use Rattle.entity_graph.specs.GraphFaults as graphs
@@ -44,13 +45,13 @@ global_refused bytes cs (global.Memory e) form h text = absurd text
 global_refused bytes cs (global.BadGlobal index) form h text = record { cards = cs; index = index; form = form; first = h; is = refl }
 
 pub directory_refused : (bytes : List ℕ) (cs : Cards) (g : GlobalText) (f : DirFault) → IsFixedForm bytes cs → IsGlobal cs.global g
-    → (directories.IsOfText f → directory_in (length cs.params) cs.directory ≡ Err f) → IsOfText (of_directory f) → Refused bytes (of_directory f)
+    → (directories.IsOfText f → IsDirectoryFault (length cs.params) cs.directory f) → IsOfText (of_directory f) → Refused bytes (of_directory f)
 directory_refused bytes cs g (directory.Memory e) form whole h text = absurd text
-directory_refused bytes cs g directory.OddLines form whole h text = record { cards = cs; text = g; form = form; globals = whole; first = h text }
-directory_refused bytes cs g directory.TooManyEntities form whole h text = record { cards = cs; text = g; form = form; globals = whole; first = h text }
-directory_refused bytes cs g (directory.BadField entity field) form whole h text = record { cards = cs; text = g; form = form; globals = whole; first = h text }
-directory_refused bytes cs g (directory.TypeDiffers entity) form whole h text = record { cards = cs; text = g; form = form; globals = whole; first = h text }
-directory_refused bytes cs g (directory.TooMuchText entity) form whole h text = record { cards = cs; text = g; form = form; globals = whole; first = h text }
+directory_refused bytes cs g directory.OddLines form whole h text = record { cards = cs; text = g; form = form; globals = whole; first = fault_again (length cs.params) cs.directory directory.OddLines (h text) }
+directory_refused bytes cs g directory.TooManyEntities form whole h text = record { cards = cs; text = g; form = form; globals = whole; first = fault_again (length cs.params) cs.directory directory.TooManyEntities (h text) }
+directory_refused bytes cs g (directory.BadField entity field) form whole h text = record { cards = cs; text = g; form = form; globals = whole; first = fault_again (length cs.params) cs.directory (directory.BadField entity field) (h text) }
+directory_refused bytes cs g (directory.TypeDiffers entity) form whole h text = record { cards = cs; text = g; form = form; globals = whole; first = fault_again (length cs.params) cs.directory (directory.TypeDiffers entity) (h text) }
+directory_refused bytes cs g (directory.TooMuchText entity) form whole h text = record { cards = cs; text = g; form = form; globals = whole; first = fault_again (length cs.params) cs.directory (directory.TooMuchText entity) (h text) }
 
 pub rows_refused : (bytes : List ℕ) (cs : Cards) (g : GlobalText) (ps : List Pair) (f : FileFault) → IsFixedForm bytes cs → IsGlobal cs.global g → IsDirectory (length cs.params) cs.directory ps
     → IsRowsFault g.comma g.semi cs.params ps f → IsOfText f → Refused bytes f

@@ -1,15 +1,19 @@
 use Rattle.std.proofs.Common.{arith, ◌∷◌, [], length-append}
 use Rattle.std.proofs.lemmas.Result.{err_from_is_err_and}
 use Rattle.iges_directory.proofs.DirectoryForms.{directory_takes}
-use Rattle.iges_directory.proofs.PairSteps.{is_odd, too_many, starts, two_at, none_after, eighty_first, text_more, goes_on, stops, ends}
+use Rattle.iges_directory.proofs.FirstFaultLaws.{fault_takes}
+use Rattle.iges_directory.proofs.PairSteps.{starts, two_at, none_after, eighty_first, text_more, goes_on, stops, ends}
 use Rattle.iges_directory.proofs.directory.read_directory.Goals as goal
 
 pub returns-then-len-ne0-clause-first_fault : goal.returns-then-len-ne0-clause-first_fault
-returns-then-len-ne0-clause-first_fault c = λ _. is_odd c.args.params c.args.lines.now (rw c.len.ensures at c.if-len-ne0.true)
+returns-then-len-ne0-clause-first_fault c =
+    let odd = rw c.len.ensures at c.if-len-ne0.true in
+    λ _. omega (arith, odd)
 
 pub returns-then-len-gt-MOST_LINES-clause-first_fault :
     goal.returns-then-len-gt-MOST_LINES-clause-first_fault
-returns-then-len-gt-MOST_LINES-clause-first_fault c = λ _. too_many c.args.params c.args.lines.now (rw c.len.ensures at c.if-len-ne0.false) (rw c.len-2.ensures at c.if-len-gt-MOST_LINES.true)
+returns-then-len-gt-MOST_LINES-clause-first_fault c =
+    λ _. (rw c.len.ensures at c.if-len-ne0.false, rw c.len-2.ensures at c.if-len-gt-MOST_LINES.true)
 
 pub loop-at-init : goal.loop-at-init
 loop-at-init c =
@@ -44,8 +48,9 @@ returns-in_err-pair-clause-first_fault c =
     let p = err_from_is_err_and c.from_residual-in_err-pair.result c.from_residual-in_err-pair.ensures.1 in
     let l = c.loop-at in
     let e = two_at c.args.lines.now l.at c.get.result.now c.get-in-loop-at.result.now c.get.ensures c.get-in-loop-at.ensures in
-    rw (p.1, p.2) (λ text. stops c.args.params l.text l.entity l.pairs.items _ _ _ c.get.result.now c.get-in-loop-at.result.now _ e l.invariant.text l.invariant.entity
-    (c.in_err-pair.ensures.fault text) l.invariant.gives)
+    rw (p.1, p.2) (λ text. fault_takes c.args.params c.args.lines.now _
+    (stops c.args.params l.text l.entity l.pairs.items _ _ _ c.get.result.now c.get-in-loop-at.result.now _ e l.invariant.text l.invariant.entity
+    (c.in_err-pair.ensures.fault text) l.invariant.gives))
 
 pub loop-at-preserved : goal.loop-at-preserved
 loop-at-preserved c =
@@ -63,11 +68,6 @@ loop-at-preserved c =
       eighty = (eighty_first _ _ _ _ e l.invariant.eighty).2;
       gives = goes_on c.args.params l.text l.entity l.pairs.items c.in_ok-pair.pair _ _ c.get.result.now c.get-in-loop-at.result.now _ e l.invariant.text l.invariant.entity c.in_ok-pair.ensures.found l.invariant.gives;
     })
-
-pub returns-clause-found : goal.returns-clause-found
-returns-clause-found c =
-    let after = none_after c.args.lines.now c.loop-at.at (omega (arith, c.loop-at-test.false, c.len-in-loop-at.ensures)) in
-    ends c.args.params c.loop-at.pairs.items _ _ after c.loop-at.invariant.gives
 
 pub returns-clause-directory : goal.returns-clause-directory
 returns-clause-directory c =
