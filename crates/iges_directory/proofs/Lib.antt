@@ -5,6 +5,7 @@ pub mod FieldSteps
 pub mod DirectoryForms
 pub mod PairFaults
 pub mod FirstFaultLaws
+pub mod StandardFacts
 pub mod NumberForms
 pub mod PairForms
 pub mod PairSteps
