@@ -3,4 +3,5 @@ pub mod Nests
 pub mod LawfulChains
 pub mod Levels
 pub mod Undone
+pub mod Scales
 pub mod StandardFacts

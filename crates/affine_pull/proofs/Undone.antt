@@ -108,7 +108,7 @@ dot-finer n d c =
     let g = past d.z (pos n) c.z in
     omega (arith, lines)
 
-pulled-finer : (m n : ℕ) (a : Affine) (p : Vec3) → pulled (m * n) a (finer n p) ≡ finer n (pulled m a p)
+pub pulled-finer : (m n : ℕ) (a : Affine) (p : Vec3) → pulled (m * n) a (finer n p) ≡ finer n (pulled m a p)
 unfolding pulled
 pulled-finer m n a p = rw (offset-finer m n a.shift p)
     (same_vector _ _ (dot-finer n (offset m a.shift p) (column1 a)) (dot-finer n (offset m a.shift p) (column2 a)) (dot-finer n (offset m a.shift p) (column3 a)))

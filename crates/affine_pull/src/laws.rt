@@ -32,6 +32,17 @@ pub fn undoing()
         finer (parts_through 1 chain * parts_through 1 chain) p }
 {}
 
+/// A place that is carried back is the same however finely its coordinates are counted: in parts, of
+/// which `m` are one step, or in parts that are `n` times finer.
+pub fn scale()
+    ensures matrix { (m n : ℕ) (a : Affine) (p : Vec3) →
+        pulled (n * m) a (finer n p) ≡ finer n (pulled m a p) }
+    ensures chain { (m n : ℕ) (chain : List Affine) (p : Vec3) →
+        pulled_through (n * m) chain (finer n p) ≡ finer n (pulled_through m chain p) }
+    ensures parts { (m n : ℕ) (chain : List Affine) →
+        parts_through (n * m) chain ≡ n * parts_through m chain }
+{}
+
 /// Spans in range that lie in others do so when both are carried back, through matrices whose
 /// parameters are in their ranges; so are those of the chains of lawful rows.
 pub fn nesting()
