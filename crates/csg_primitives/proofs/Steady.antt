@@ -228,13 +228,3 @@ around-carried {g = g} s r = record {
       r.holds n (reach s * d) (g n p) a (reach-share r.shares (reach s) d n b)
       (place-near s n d p a (one-share (r.shares * reach s) d n b) c);
 }
-
-reach-none : (b : ℕ) → b * 0 ≡ 0
-reach-none b = omega arith
-
--- where the one is the same place counted finer, so is the other
-pub same-carried : {at q : Vec3} {g : ℕ → Vec3 → Vec3} → SteadyPlace at 1 q g
-    → (n : ℕ) (p : Vec3) → 0 < n → IsNear n 0 at p → IsNear n 0 q (g n p)
-same-carried s n p a c =
-    let near = place-near s n 0 p a (omega arith) c in
-    rw (reach-none (reach s)) at near
