@@ -14,4 +14,7 @@ pub mod Heavy
 pub mod Causes
 pub mod Sharp
 pub mod Taken
+pub mod Interior
+pub mod Settled
+pub mod InteriorFacts
 pub mod StandardFacts

@@ -5,3 +5,4 @@ pub mod Uses
 pub mod Locality
 pub mod Causes
 pub mod Taking
+pub mod Interior
