@@ -24,8 +24,11 @@ import sys
 ROOT = os.path.dirname(os.path.dirname(os.path.abspath(__file__)))
 CRATES = sorted(os.path.basename(os.path.dirname(p)) for p in glob.glob(os.path.join(ROOT, "crates/*/src")))
 PAGES = ["README.md", "docs/ARCHITECTURE.md", "docs/DECISIONS.md", "docs/DEFINITIONS.md", "docs/ERRORS.md"]
-PAGES += ["docs/FORMATS.md", "docs/PROVED.md", "examples/README.md", "bench/README.md"]
+PAGES += ["docs/FORMATS.md", "docs/PROVED.md", "docs/TURN.md", "examples/README.md", "bench/README.md"]
 COY = ["behind", "want of memory", "memory was wanting", "memory is wanting", "as fine as one likes", "coy"]
+# The first line of a definition, which may stand in a module of its file.
+DEFINITION = re.compile(r"(?:(?:abbrev|unfoldable) )?pub (?:record |data )?([^\s:(]+)"
+                        r"|  (?:(?:abbrev|unfoldable) pub|pub (?:record|data)) ([^\s:(]+)")
 WORD = re.compile(r"[^\W\d][\w']*")
 TICKED = re.compile(r"`([^`\n]+)`")
 # Names in backticks that stand for no name of the repository.
@@ -66,9 +69,9 @@ def definitions():
         imports[crate, file] = imports_of(text, r"(?:^|\n)use")
         own, name = {}, None
         for line in text.splitlines():
-            head = re.match(r"(?:(?:abbrev|unfoldable) )?pub (?:record |data )?([^\s:(]+)", line)
+            head = DEFINITION.match(line)
             if head and not line.startswith("pub mod"):
-                name = head.group(1)
+                name = head.group(1) or head.group(2)
                 own[name] = ""
             if name and not line.lstrip().startswith("--"):
                 own[name] += line + "\n"
@@ -344,12 +347,12 @@ def comments():
         crate, rest = path[len(ROOT) + 8 :].split("/specs/")
         file, note = rest[:-5].replace("/", "."), []
         for line in open(path, encoding="utf-8").read().splitlines():
-            if line.startswith("-- ") and not line.startswith("-- ----"):
-                note.append(line[3:])
+            if line.lstrip().startswith("-- ") and not line.startswith("-- ----"):
+                note.append(line.lstrip()[3:])
                 continue
-            head = re.match(r"(?:(?:abbrev|unfoldable) )?pub (?:record |data )?([^\s:(]+)", line)
+            head = DEFINITION.match(line)
             if head and not line.startswith("pub mod"):
-                above[crate, file, head.group(1)] = " ".join(note)
+                above[crate, file, head.group(1) or head.group(2)] = " ".join(note)
             elif note and line.startswith("use ") and (crate, file) not in heads:
                 heads[crate, file] = " ".join(note)
             note = []

@@ -1,0 +1,4 @@
+pub mod Steps
+pub mod TurnRules
+pub mod Seats
+pub mod Passes
