@@ -21,20 +21,27 @@ all_named P (c ∷ cs) h = (h c (0, omega arith, refl), all_named P cs (λ d i. 
 agree_below : (rows others : List Entity) (e c : ℕ) → Agree rows others e → Refers rows e c → Agree rows others c
 agree_below rows others e c h r k reached = h k (further r reached)
 
--- an entity reaches the same numbers twice
-reached_there : (rows others : List Entity) (e k : ℕ) → Agree rows others e → Reaches rows e k → Reaches others e k
+-- an entity reaches the same entities twice
+reached_there : (rows others : List Entity) (e k : ℕ) → Agree rows others e → Reaches rows e k
+    → Reaches others e k
 reached_there rows others e k h here = here
 reached_there rows others e k h (further {c = c} r reached) =
-    further (subst (λ own. Contains (references own) c) (h e here) r) (reached_there rows others c k (agree_below rows others e c h r) reached)
+    let there = subst (λ own. Contains (references own) c) (h e here) r in
+    let agree = agree_below rows others e c h r in
+    further there (reached_there rows others c k agree reached)
 
-reached_here : (rows others : List Entity) (e k : ℕ) → Agree rows others e → Reaches others e k → Reaches rows e k
+reached_here : (rows others : List Entity) (e k : ℕ) → Agree rows others e → Reaches others e k
+    → Reaches rows e k
 reached_here rows others e k h here = here
 reached_here rows others e k h (further {c = c} r reached) =
     let own = subst (λ own. Contains (references own) c) (sym (h e here)) r in
-    further own (reached_here rows others c k (agree_below rows others e c h own) reached)
+    let agree = agree_below rows others e c h own in
+    further own (reached_here rows others c k agree reached)
 
-pub same_reached : (rows others : List Entity) (e k : ℕ) → Agree rows others e → Reaches rows e k ↔ Reaches others e k
-same_reached rows others e k h = (reached_there rows others e k h, reached_here rows others e k h)
+pub same_reached : (rows others : List Entity) (e k : ℕ) → Agree rows others e
+    → Reaches rows e k ↔ Reaches others e k
+same_reached rows others e k h =
+    (reached_there rows others e k h, reached_here rows others e k h)
 
 -- 0 names no matrix
 none-within : (levels : ℕ) (rows : List Entity) → chain_within levels rows 0 ≡ []

@@ -19,9 +19,16 @@ use Rattle.solid_eval.specs.Written.{written}
 use Rattle.solid_eval.proofs.FromUses.{primitive_solid}
 use Rattle.solid_eval.proofs.Sound.{named_class}
 
-pub sharp_point : (rows : List Entity) (e : ℕ) (p : Primitive) (at : Vec3) → row_at rows e ≡ row.Prim p 0 → IsLawfulPrim p → IsSharp p → IsPointWithin far at
-    → (written (solid_of rows e) (spans_of (box_of (point_cube at)))).class ≡ place_class 1 (solid_of rows e) at
-sharp_point rows e p at is lawful kind near =
-    let alone : solid_of rows e ≡ primitive e [] p = primitive_solid rows e 0 p is ∙ ap (λ chain. primitive e chain p) (chain-none rows) in
-    let box = box_of (point_cube at) in
-    ap (λ solid. (written solid (spans_of box)).class) alone ∙ named_class e (written_class p box) ∙ sharp p at lawful kind near ∙ sym (ap (λ solid. place_class 1 solid at) alone)
+module _ (rows : List Entity) (e : ℕ) (p : Primitive) (at : Vec3) where
+  pub sharp_point : row_at rows e ≡ row.Prim p 0 → IsLawfulPrim p → IsSharp p
+      → IsPointWithin far at
+      → (written (solid_of rows e) (spans_of (box_of (point_cube at)))).class
+      ≡ place_class 1 (solid_of rows e) at
+  sharp_point is lawful kind near =
+      let unmoved : solid_of rows e ≡ primitive e [] p =
+      primitive_solid rows e 0 p is ∙ ap (λ chain. primitive e chain p) (chain-none rows) in
+      let box = box_of (point_cube at) in
+      ap (λ solid. (written solid (spans_of box)).class) unmoved
+      ∙ named_class e (written_class p box)
+      ∙ sharp p at lawful kind near
+      ∙ sym (ap (λ solid. place_class 1 solid at) unmoved)

@@ -1,20 +1,24 @@
 -- A verdict's class decides the class of each place that the spans hold, and the verdict over spans within.
-use Rattle.std.proofs.Common.{◌≡◌, ◌≢◌, ℕ, ◌<◌, refl, sym, ap, ◌∙◌}
+use Rattle.std.proofs.Common.{◌≡◌, ◌≢◌, ℕ, ◌<◌, List, refl, sym, ap, ◌∙◌}
+use Rattle.std.specs.List.{AllByRecursion}
 use Rattle.solid_base.specs.declared.classes.Class.{Class}
 use Rattle.solid_base.specs.declared.classes.Class.TheVariants.{Outside, Mixed, Inside}
 use Rattle.solid_base.specs.declared.classes.Verdict.{Verdict}
+use Rattle.solid_base.specs.declared.entities.Entity.{Entity}
 use Rattle.solid_base.specs.declared.geometry.Vec3.{Vec3}
-use Rattle.fixed_enclosure.specs.Places.{Span3, SpansHold, AreNested}
+use Rattle.solid_base.specs.Ranges.{IsLawfulRow}
+use Rattle.fixed_enclosure.specs.declared.enclosures.Box3.{Box3}
+use Rattle.fixed_enclosure.specs.Places.{Span3, spans_of, SpansHold, AreNested}
 use Rattle.csg_primitives.specs.WrittenMargins.{span_class, written_margins}
 use Rattle.boolean_tree.specs.Verdicts.{class_of, leaf_of, Decides}
 use Rattle.boolean_tree.proofs.Deciding.{two_decides}
 use Rattle.affine_pull.specs.Chains.{parts_through, pulled_through, spans_through}
 use Rattle.affine_pull.proofs.Enclosed.{through-held, parts-positive}
 use Rattle.affine_pull.proofs.Nests.{through-nested}
-use Rattle.solid_eval.specs.Solids.{Solid, nothing, primitive, moved, entity, combined}
-use Rattle.solid_eval.specs.Classes.{place_class}
+use Rattle.solid_eval.specs.Solids.{Solid, nothing, primitive, moved, entity, combined, solid_of}
+use Rattle.solid_eval.specs.Classes.{place_class, IsOfPlaces}
 use Rattle.solid_eval.specs.Written.{named, written}
-use Rattle.solid_eval.proofs.AllSolids.{IsLawful}
+use Rattle.solid_eval.proofs.AllSolids.{IsLawful, lawful-solid}
 use Rattle.solid_eval.proofs.BoxesOfSpans.{primitive-sound, primitive-nested}
 
 pub named_class : (e : ℕ) (k : Class) → (named e k).class ≡ k
@@ -75,3 +79,10 @@ isotone solid inner outer l h n =
     let class = decided (written solid outer).class (written solid inner).class (written solid outer).class (nested solid inner outer l h) refl n in
     let leaf = leaf_zero solid inner (λ is. n (sym class ∙ is)) ∙ sym (leaf_zero solid outer n) in
     same_verdict (written solid inner) (written solid outer) class leaf
+
+-- ---- the entities of lawful rows
+pub of_places : (rows : List Entity) (e : ℕ) (box : Box3)
+    → AllByRecursion (λ (e : Entity). IsLawfulRow e.row) rows
+    → IsOfPlaces (solid_of rows e) box (written (solid_of rows e) (spans_of box)).class
+of_places rows e box lawful m at parts held =
+    sound m (solid_of rows e) (spans_of box) at parts (lawful-solid rows e lawful) held

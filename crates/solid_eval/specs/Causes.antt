@@ -2,6 +2,7 @@
 use Rattle.std.specs.Prelude.{◌≡◌, ℕ, pos, List}
 use Rattle.std.specs.List.{Any}
 use Rattle.solid_base.specs.declared.classes.Class.TheVariants.{Mixed}
+use Rattle.solid_base.specs.declared.classes.Verdict.{Verdict}
 use Rattle.solid_base.specs.declared.entities.Entity.{Entity}
 use Rattle.solid_base.specs.declared.geometry.Affine.{Affine}
 use Rattle.solid_base.specs.declared.solids.Row.{Row}
@@ -11,7 +12,8 @@ use Rattle.fixed_enclosure.specs.Places.{Span3}
 use Rattle.fixed_enclosure.specs.Spans.{Holds}
 use Rattle.csg_primitives.specs.WrittenMargins.{written_margins}
 use Rattle.affine_pull.specs.Chains.{chain_of, spans_through}
-use Rattle.solid_eval.specs.Uses.{Use, use_verdict}
+use Rattle.solid_eval.specs.Solids.{solid_of}
+use Rattle.solid_eval.specs.Uses.{Use, uses, use_verdict}
 
 -- solidd's own: the row is a primitive, and one of its written margins may be 0 over the spans,
 -- which stand before its own matrices and are carried back through them
@@ -27,3 +29,9 @@ IsOpenUse rows d u =
     (u.number ≡ d) ×
     ((use_verdict rows u).class ≡ Mixed) ×
     TouchesZero (chain_of rows) (row_at rows d) u.spans
+
+-- solidd's own: where a verdict on an entity over spans is open, the entity's solid has there an
+-- open use of the primitive that the verdict names
+abbrev pub HasCause : List Entity → ℕ → Span3 → Verdict → Type 0
+HasCause rows e s v =
+    v.class ≡ Mixed → Any (IsOpenUse rows v.leaf) (uses (solid_of rows e) s)

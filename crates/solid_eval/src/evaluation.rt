@@ -1,15 +1,22 @@
 ghost use Rattle.std.specs.Prelude.{◌≡◌, ◌≤◌, map, IfOk, OnOk, OnErr};
 ghost use Rattle.std.specs.List.{AllByRecursion};
+ghost use Rattle.solid_base.specs.declared.geometry.Vec3.{Vec3};
+ghost use Rattle.solid_base.specs.declared.solids.Primitive.{Primitive};
+ghost use Rattle.solid_base.specs.declared.solids.Row.TheVariants as row;
 ghost use Rattle.solid_base.specs.Classes.{IsVerdict};
 ghost use Rattle.solid_base.specs.Graph.{weight_of, most_weight};
 ghost use Rattle.solid_base.specs.Ledgers.{counted, RisesUpTo};
+ghost use Rattle.solid_base.specs.Range.{IsPointWithin, far};
 ghost use Rattle.solid_base.specs.Ranges.{IsLawfulRow};
 ghost use Rattle.solid_base.specs.References.{row_at};
 ghost use Rattle.fixed_enclosure.specs.Places.{Span3, spans_of};
-ghost use Rattle.fixed_enclosure.specs.Spans.{IsBox};
+ghost use Rattle.fixed_enclosure.specs.Spans.{IsBox, box_of};
+ghost use Rattle.csg_primitives.specs.Sharpness.{IsSharp, point_cube};
 ghost use Rattle.solid_eval.specs.Solids.{solid_of, IsPrimitiveRow};
 ghost use Rattle.solid_eval.specs.Uses.{leaf_count, uses, use_verdict, verdict_from};
+ghost use Rattle.solid_eval.specs.Classes.{place_class, IsOfPlaces};
 ghost use Rattle.solid_eval.specs.Written.{written};
+ghost use Rattle.solid_eval.specs.Causes.{HasCause};
 
 use crate::leaves::{Anywhere, Evaluated, Given, OUTSIDE, evaluate};
 use crate::walk::entity_verdict;
@@ -19,10 +26,14 @@ use fixed_enclosure::Box3;
 use solid_base::{Ledger, MOST_LEVELS, Row, Rows, Verdict, Verdicts};
 use std::alloc::{AllocError, Global};
 
-/// The verdict on an entity over a box. Each primitive is evaluated and counted on the ledger once
-/// for each time that it stands in the entity's solid: as often as the entity weighs where it
-/// reaches nothing unread, and never more often, so at most 2^20 times. The graph is that of the
-/// rows. AllocError when out of memory, which comes before the first evaluation.
+/// The verdict on an entity over a box. A class that isn't `Mixed` is that of each place in the
+/// box. Where it is `Mixed`, the leaf is a primitive that is open itself over one of its uses. Of a
+/// sharp primitive that no matrix moves, the class over the box of a point is that of the point.
+///
+/// Each primitive is evaluated and counted on the ledger once for each time that it stands in the
+/// entity's solid: as often as the entity weighs where it reaches nothing unread, and never more
+/// often, so at most 2^20 times. The graph is that of the rows. AllocError when out of memory,
+/// which comes before the first evaluation.
 #[tactic(auto, unfolding(crate::specs::Solids::solid_of))]
 pub fn afresh<L: Ledger>(
     alloc: Global,
@@ -37,6 +48,11 @@ pub fn afresh<L: Ledger>(
     requires at { IsBox at.now }
     ensures verdict { IfOk result (λ v. v ≡ written (solid_of rows.now e) (spans_of at.now)) }
     ensures leaf { IfOk result IsVerdict }
+    ensures places { IfOk result (λ v. IsOfPlaces (solid_of rows.now e) at.now v.class) }
+    ensures cause { IfOk result (HasCause rows.now e (spans_of at.now)) }
+    ensures sharp { (p : Primitive) (point : Vec3) → row_at rows.now e ≡ row.Prim p 0 →
+        IsSharp p → IsPointWithin far point → at.now ≡ box_of (point_cube point) →
+        IfOk result (λ v. v.class ≡ place_class 1 (solid_of rows.now e) point) }
     ensures counted { OnOk result (L.count leaves.new ≡
         counted (L.count leaves.old) (leaf_count (solid_of rows.now e))) }
     ensures unchanged { OnErr result (L.count leaves.new ≡ L.count leaves.old) }

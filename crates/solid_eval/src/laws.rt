@@ -37,9 +37,9 @@ pub fn isotone()
         written (solid_of rows e) (spans_of inner) ≡ written (solid_of rows e) (spans_of outer) }
 {}
 
-/// An entity depends on nothing but the rows that it reaches: in two models that have the same rows
-/// at all that it reaches in the first, it reaches the same rows and has the same solid, so the same
-/// verdict over each box, and each place has the same class.
+/// An entity depends on nothing but the rows that it reaches: in two models that have the same
+/// rows at all that it reaches in the first, it reaches the same rows and has the same solid, so
+/// the same verdict over each box, and each place has the same class.
 pub fn local()
     ensures reached { (rows others : List Entity) (e k : ℕ) → Agree rows others e →
         (Reaches rows e k ↔ Reaches others e k) }

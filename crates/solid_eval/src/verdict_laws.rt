@@ -18,8 +18,7 @@ ghost use Rattle.csg_primitives.specs.Sharpness.{IsSharp, point_cube};
 ghost use Rattle.csg_primitives.specs.WrittenMargins.{written_margins};
 ghost use Rattle.affine_pull.specs.Chains.{chain_of, spans_through};
 ghost use Rattle.solid_eval.specs.Solids.{solid_of, HasPrimitive};
-ghost use Rattle.solid_eval.specs.Uses.{uses};
-ghost use Rattle.solid_eval.specs.Causes.{IsOpenUse};
+ghost use Rattle.solid_eval.specs.Causes.{HasCause};
 ghost use Rattle.solid_eval.specs.Classes.{place_class};
 ghost use Rattle.solid_eval.specs.Written.{written};
 
@@ -36,13 +35,12 @@ pub fn leaves()
         HasPrimitive (solid_of rows e) (written (solid_of rows e) s).leaf }
 {}
 
-/// The cause of an open verdict: its leaf is a primitive with a use over whose spans the primitive is
+/// The cause of an open verdict: its leaf is a primitive with a use over whose spans it is
 /// open itself, since one of its own margins may be 0 there. A primitive is open exactly where none
 /// of its margins is negative and one may be 0.
 pub fn causes()
     ensures open_use { (rows : List Entity) (e : ℕ) (s : Span3) →
-        (written (solid_of rows e) s).class ≡ Class.Mixed →
-        Any (IsOpenUse rows (written (solid_of rows e) s).leaf) (uses (solid_of rows e) s) }
+        HasCause rows e s (written (solid_of rows e) s) }
     ensures primitive { (rows : List Entity) (e matrix : ℕ) (p : Primitive) (s : Span3) →
         row_at rows e ≡ row.Prim p matrix →
         let margins = written_margins p (spans_through (chain_of rows matrix) s) in

@@ -1,12 +1,20 @@
-use Rattle.std.proofs.Common.{refl, sym, ◌∙◌, subst}
+use Rattle.std.proofs.Common.{refl, sym, ap, ◌∙◌, subst}
 use Rattle.solid_base.specs.Classes.{IsVerdict}
 use Rattle.solid_base.specs.Graph.{AreSound, weight_of, most_weight}
 use Rattle.solid_base.specs.Ledgers.{RisesUpTo}
+use Rattle.solid_base.specs.Ranges.{IsLawfulRow}
 use Rattle.fixed_enclosure.specs.Places.{spans_of}
+use Rattle.affine_pull.proofs.LawfulChains.{lawful-row}
 use Rattle.solid_eval.specs.Solids.{solid_of}
 use Rattle.solid_eval.specs.Uses.{leaf_count}
+use Rattle.solid_eval.specs.Classes.{IsOfPlaces}
+use Rattle.solid_eval.specs.Written.{written}
+use Rattle.solid_eval.specs.Causes.{HasCause}
+use Rattle.solid_eval.proofs.Causes.{open_use}
 use Rattle.solid_eval.proofs.Counting.{up_to}
 use Rattle.solid_eval.proofs.Mixed.{is_verdict}
+use Rattle.solid_eval.proofs.Sharp.{sharp_point}
+use Rattle.solid_eval.proofs.Sound.{of_places}
 use Rattle.solid_eval.proofs.Taken.{evaluated_verdict, evaluated_count, rises_by}
 use Rattle.solid_eval.proofs.Uses.{count_most}
 use Rattle.solid_eval.proofs.evaluation.afresh.Goals as goal
@@ -19,6 +27,28 @@ returns-clause-verdict g c =
 
 pub returns-clause-leaf : goal.returns-clause-leaf
 returns-clause-leaf g c = subst IsVerdict (sym (returns-clause-verdict g c)) (is_verdict c.args.rows.now c.args.e (spans_of c.args.at.now))
+
+pub returns-clause-places : goal.returns-clause-places
+returns-clause-places g c =
+    let rows = c.args.rows.now in
+    let box = c.args.at.now in
+    subst (λ v. IsOfPlaces (solid_of rows c.args.e) box v.class) (sym (returns-clause-verdict g c))
+    (of_places rows c.args.e box c.requires.rows)
+
+pub returns-clause-cause : goal.returns-clause-cause
+returns-clause-cause g c =
+    let rows = c.args.rows.now in
+    let s = spans_of c.args.at.now in
+    subst (HasCause rows c.args.e s) (sym (returns-clause-verdict g c)) (open_use rows c.args.e s)
+
+pub returns-clause-sharp : goal.returns-clause-sharp
+returns-clause-sharp g c p point own kind near alone =
+    let rows = c.args.rows.now in
+    let e = c.args.e in
+    let own_lawful = subst IsLawfulRow own (lawful-row rows e c.requires.rows) in
+    let at_point = ap (λ box. written (solid_of rows e) (spans_of box)) alone in
+    ap (λ v. v.class) (returns-clause-verdict g c ∙ at_point)
+    ∙ sharp_point rows e p point own own_lawful kind near
 
 pub returns-clause-counted : goal.returns-clause-counted
 unfolding solid_of

@@ -6,5 +6,7 @@ use Rattle.solid_eval.proofs.laws.isotone.Goals as goal
 
 pub returns : goal.returns
 returns c = record {
-  within = λ rows e inner outer l box within n. isotone (solid_of rows e) (spans_of inner) (spans_of outer) (lawful-solid rows e l) ((box.0, within.0), (box.1, within.1), (box.2, within.2)) n;
+  within = λ rows e inner outer lawful box within decided.
+      isotone (solid_of rows e) (spans_of inner) (spans_of outer) (lawful-solid rows e lawful)
+      ((box.0, within.0), (box.1, within.1), (box.2, within.2)) decided;
 }

@@ -9,5 +9,6 @@ returns c = record {
   reached = same_reached;
   solid = local_solid;
   verdict = λ rows others e s h. ap (λ solid. written solid s) (local_solid rows others e h);
-  class = λ rows others e m at h. ap (λ solid. place_class m solid at) (local_solid rows others e h);
+  class = λ rows others e m at h.
+      ap (λ solid. place_class m solid at) (local_solid rows others e h);
 }
