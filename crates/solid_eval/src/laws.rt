@@ -1,4 +1,4 @@
-ghost use Rattle.std.specs.Prelude.{◌≡◌, ◌≢◌, ◌↔◌, ◌<◌, ◌*◌, ℕ, List};
+ghost use Rattle.std.specs.Prelude.{◌≡◌, ◌≢◌, ◌↔◌, ◌<◌, ℕ, List};
 ghost use Rattle.std.specs.List.{AllByRecursion};
 ghost use Rattle.solid_base.specs.declared.classes.Class.{Class};
 ghost use Rattle.solid_base.specs.declared.entities.Entity.{Entity};
@@ -8,7 +8,6 @@ ghost use Rattle.solid_base.specs.References.{Reaches};
 ghost use Rattle.fixed_enclosure.specs.declared.enclosures.Box3.{Box3};
 ghost use Rattle.fixed_enclosure.specs.Places.{Span3, spans_of};
 ghost use Rattle.fixed_enclosure.specs.Spans.{BoxHolds, IsBox, IsBoxIn, box_of};
-ghost use Rattle.affine_pull.specs.Matrices.{finer};
 ghost use Rattle.csg_primitives.specs.Sharpness.{point_cube};
 ghost use Rattle.solid_eval.specs.Solids.{solid_of};
 ghost use Rattle.solid_eval.specs.Classes.{place_class};
@@ -52,8 +51,8 @@ pub fn local()
 {}
 
 /// A place is inside an entity exactly where it lies in its interior, and outside exactly where it
-/// lies in its exterior: where all places in a neighbourhood of it are so, at every finer scale. Where
-/// the verdict over a box is `Inside`, each place in the box lies in the interior, and where it is
+/// lies in its exterior: where all places in a neighbourhood of it are so, at every finer scale.
+/// Where the verdict over a box is `Inside`, each place in the box lies in the interior, and where it is
 /// `Outside`, in the exterior; and so does the point of a box that is a single point.
 pub fn interior()
     ensures inside { (m : ℕ) (rows : List Entity) (e : ℕ) (at : Vec3) →
@@ -78,12 +77,4 @@ pub fn interior()
         AllByRecursion (λ e. IsLawfulRow e.row) rows →
         (written (solid_of rows e) (spans_of (box_of (point_cube at)))).class ≡ Class.Outside →
         IsExterior 1 (solid_of rows e) at }
-{}
-
-/// The class of a place is the same however finely its coordinates are counted: in parts, of which
-/// `m` are one step, or in parts that are `n` times finer.
-pub fn scale()
-    ensures { (m n : ℕ) (rows : List Entity) (e : ℕ) (at : Vec3) → 0 < n →
-        place_class (n * m) (solid_of rows e) (finer n at) ≡
-        place_class m (solid_of rows e) at }
 {}

@@ -2,12 +2,13 @@
 //! Contracts see the plain tree that an entity unfolds into, and by recursion on it the verdict and
 //! how many primitives are evaluated and counted. That the verdict tells the class of each place in
 //! the box, and of each box within, are `laws`. Files in reading order: leaves, walk,
-//! evaluation, laws, verdict_laws, use_laws, unfolding_laws.
+//! evaluation, laws, verdict_laws, place_laws, use_laws, unfolding_laws.
 #![tactic(auto)]
 
 mod evaluation;
 pub mod laws;
 mod leaves;
+pub mod place_laws;
 pub mod unfolding_laws;
 pub mod use_laws;
 pub mod verdict_laws;
