@@ -17,4 +17,6 @@ pub mod Taken
 pub mod Interior
 pub mod Settled
 pub mod InteriorFacts
+pub mod PartsUses
+pub mod PassedParts
 pub mod StandardFacts

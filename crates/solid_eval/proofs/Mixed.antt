@@ -1,8 +1,7 @@
 -- The leaf of a mixed verdict is the number of a primitive of the solid.
-use Rattle.std.proofs.Common.{◌≡◌, ◌≢◌, ◌⊎◌, ◌<◌, ℕ, List, Result, Ok, Err, IfOk, inl, inr, refl, sym, subst}
+use Rattle.std.proofs.Common.{◌≡◌, ◌≢◌, ◌⊎◌, ◌<◌, ℕ, List, inl, inr, refl, sym, subst}
 use Rattle.solid_base.specs.declared.classes.Class.{Class}
 use Rattle.solid_base.specs.declared.classes.Class.TheVariants.{Outside, Mixed, Inside}
-use Rattle.solid_base.specs.declared.classes.Verdict.{Verdict}
 use Rattle.solid_base.specs.declared.entities.Entity.{Entity}
 use Rattle.solid_base.specs.Classes.{IsLeafOf, IsVerdict}
 use Rattle.solid_base.specs.Trees.{Operation}

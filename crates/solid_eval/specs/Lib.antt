@@ -6,3 +6,4 @@ pub mod Locality
 pub mod Causes
 pub mod Taking
 pub mod Interior
+pub mod Passing

@@ -1,5 +1,5 @@
 -- The uses of primitives of which a solid is made, and the verdict on it from the verdicts on them.
-use Rattle.std.specs.Prelude.{ℕ, ◌+◌, List, [], ◌∷◌, ◌++◌, drop}
+use Rattle.std.specs.Prelude.{◌≡◌, ℕ, ◌+◌, List, [], ◌∷◌, ◌++◌, drop, slice_get, Some}
 use Rattle.solid_base.specs.declared.classes.Verdict.{Verdict}
 use Rattle.solid_base.specs.declared.entities.Entity.{Entity}
 use Rattle.fixed_enclosure.specs.Places.{Span3}
@@ -45,3 +45,9 @@ verdict_from (moved chain part) verdicts = verdict_from part verdicts
 verdict_from (entity e part) verdicts = verdict_from part verdicts
 verdict_from (combined o a b) verdicts =
     verdict_of o (verdict_from a verdicts) (verdict_from b (drop (leaf_count a) verdicts))
+
+-- solidd's own: the use of a solid that stands at a place, counted from 0, is of the primitive with
+-- this number, over these spans
+abbrev pub IsUseAt : Solid → Span3 → ℕ → ℕ → Span3 → Type 0
+IsUseAt solid s place number spans =
+    slice_get (uses solid s) place ≡ Some (record { number = number; spans = spans })

@@ -2,19 +2,21 @@
 //! Contracts see the plain tree that an entity unfolds into, and by recursion on it the verdict and
 //! how many primitives are evaluated and counted. That the verdict tells the class of each place in
 //! the box, and of each box within, are `laws`. Files in reading order: leaves, walk,
-//! evaluation, laws, verdict_laws, place_laws, use_laws, unfolding_laws.
+//! evaluation, places, laws, verdict_laws, place_laws, use_laws, unfolding_laws.
 #![tactic(auto)]
 
 mod evaluation;
 pub mod laws;
 mod leaves;
 pub mod place_laws;
+mod places;
 pub mod unfolding_laws;
 pub mod use_laws;
 pub mod verdict_laws;
 mod walk;
 
 pub use evaluation::{afresh, combine, primitive_verdict};
+pub use places::leaf_at;
 
 #[cfg(test)]
 mod tests;
