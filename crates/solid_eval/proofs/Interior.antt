@@ -129,7 +129,7 @@ power-positive u j h = let p = power-above u j h in omega arith
 by-powers : (m : ℕ) (solid : Solid) (at : Vec3) (k : Class)
     → Around at (λ n p. place_class (n * m) solid p ≡ k) → IsAllAround k m solid at
 by-powers m solid at k around = record {
-  finer = around.shares;
+  scales = around.shares;
   near = λ t p h.
       around.holds (unit ^ (around.shares + t)) (unit ^ t) p
       (power-positive unit (around.shares + t) (omega arith))
@@ -160,8 +160,8 @@ near-wider n d at p h = (
 all-around-here : (k : Class) (m : ℕ) (solid : Solid) (at : Vec3) → IsAllAround k m solid at
     → place_class m solid at ≡ k
 all-around-here k m solid at h =
-    let n = unit ^ (h.finer + 0) in
-    sym (solid-scale m n solid at (power-positive unit (h.finer + 0) (omega arith)))
+    let n = unit ^ (h.scales + 0) in
+    sym (solid-scale m n solid at (power-positive unit (h.scales + 0) (omega arith)))
     ∙ h.near 0 (finer n at) (near-wider n (unit ^ 0) at (finer n at) (finer-near n at))
 
 pub interior : (m : ℕ) (solid : Solid) (at : Vec3) → (place_class m solid at ≡ Inside) ↔

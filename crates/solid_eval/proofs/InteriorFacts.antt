@@ -63,7 +63,7 @@ none-before t = omega arith
 -- its centre is interior, with a neighbourhood of a step to every side
 pub centre_interior : IsInterior 1 ball origin
 centre_interior = record {
-  finer = 0;
+  scales = 0;
   near = λ t p.
       let w = unit ^ t in
       subst (λ (s : ℕ). IsNear (unit ^ s) w origin p → place_class (unit ^ s * 1) ball p ≡ Inside)

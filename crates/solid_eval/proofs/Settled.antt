@@ -11,6 +11,7 @@ use Rattle.fixed_enclosure.specs.declared.enclosures.Box3.{Box3}
 use Rattle.fixed_enclosure.specs.Places.{spans_of}
 use Rattle.fixed_enclosure.specs.Spans.{Between, Holds, BoxHolds, box_of}
 use Rattle.csg_primitives.specs.Sharpness.{point_cube}
+use Rattle.solid_eval.specs.Classes.{place_class}
 use Rattle.solid_eval.specs.Interior.{IsInterior, IsExterior}
 use Rattle.solid_eval.specs.Solids.{solid_of}
 use Rattle.solid_eval.specs.Written.{written}
@@ -21,19 +22,27 @@ use Rattle.solid_eval.proofs.Sound.{sound, decided}
 module _ (m : ℕ) (rows : List Entity) (e : ℕ) (box : Box3) (at : Vec3) (parts : 0 < m)
     (lawful : AllByRecursion (λ (e : Entity). IsLawfulRow e.row) rows)
     (held : BoxHolds m box at) where
-  pub inside-settled : (written (solid_of rows e) (spans_of box)).class ≡ Inside
-      → IsInterior m (solid_of rows e) at
-  inside-settled is =
+  pub inside-exact : (written (solid_of rows e) (spans_of box)).class ≡ Inside
+      → place_class m (solid_of rows e) at ≡ Inside
+  inside-exact is =
       let ranges = lawful-solid rows e lawful in
       let known = sound m (solid_of rows e) (spans_of box) at parts ranges held in
-      (interior m (solid_of rows e) at).0 (decided _ _ Inside known is (λ n. cc))
+      decided _ _ Inside known is (λ n. cc)
+
+  pub outside-exact : (written (solid_of rows e) (spans_of box)).class ≡ Outside
+      → place_class m (solid_of rows e) at ≡ Outside
+  outside-exact is =
+      let ranges = lawful-solid rows e lawful in
+      let known = sound m (solid_of rows e) (spans_of box) at parts ranges held in
+      decided _ _ Outside known is (λ n. cc)
+
+  pub inside-settled : (written (solid_of rows e) (spans_of box)).class ≡ Inside
+      → IsInterior m (solid_of rows e) at
+  inside-settled is = (interior m (solid_of rows e) at).0 (inside-exact is)
 
   pub outside-settled : (written (solid_of rows e) (spans_of box)).class ≡ Outside
       → IsExterior m (solid_of rows e) at
-  outside-settled is =
-      let ranges = lawful-solid rows e lawful in
-      let known = sound m (solid_of rows e) (spans_of box) at parts ranges held in
-      (exterior m (solid_of rows e) at).0 (decided _ _ Outside known is (λ n. cc))
+  outside-settled is = (exterior m (solid_of rows e) at).0 (outside-exact is)
 
 -- ---- the box of a single point holds the point
 held-once : (x : ℤ) → Holds 1 (Between x x) x

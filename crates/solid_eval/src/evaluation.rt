@@ -1,5 +1,6 @@
 ghost use Rattle.std.specs.Prelude.{◌≡◌, ◌≤◌, map, IfOk, OnOk, OnErr};
 ghost use Rattle.std.specs.List.{AllByRecursion};
+ghost use Rattle.solid_base.specs.declared.classes.Class.{Class};
 ghost use Rattle.solid_base.specs.declared.geometry.Vec3.{Vec3};
 ghost use Rattle.solid_base.specs.declared.solids.Primitive.{Primitive};
 ghost use Rattle.solid_base.specs.declared.solids.Row.TheVariants as row;
@@ -15,6 +16,7 @@ ghost use Rattle.csg_primitives.specs.Sharpness.{IsSharp, point_cube};
 ghost use Rattle.solid_eval.specs.Solids.{solid_of, IsPrimitiveRow};
 ghost use Rattle.solid_eval.specs.Uses.{leaf_count, uses, use_verdict, verdict_from};
 ghost use Rattle.solid_eval.specs.Classes.{place_class, IsOfPlaces};
+ghost use Rattle.solid_eval.specs.Interior.{IsInterior, IsExterior};
 ghost use Rattle.solid_eval.specs.Written.{written};
 ghost use Rattle.solid_eval.specs.Causes.{HasCause};
 
@@ -27,8 +29,9 @@ use solid_base::{Ledger, MOST_LEVELS, Row, Rows, Verdict, Verdicts};
 use std::alloc::{AllocError, Global};
 
 /// The verdict on an entity over a box. A class that isn't `Mixed` is that of each place in the
-/// box. Where it is `Mixed`, the leaf is a primitive that is open itself over one of its uses. Of a
-/// sharp primitive that no matrix moves, the class over the box of a point is that of the point.
+/// box, and over the box of a point that of all places in a neighbourhood of the point. Where it is
+/// `Mixed`, the leaf is a primitive that is open itself over one of its uses. Of a sharp primitive
+/// that no matrix moves, the class over the box of a point is that of the point.
 ///
 /// Each primitive is evaluated and counted on the ledger once for each time that it stands in the
 /// entity's solid: as often as the entity weighs where it reaches nothing unread, and never more
@@ -49,6 +52,10 @@ pub fn afresh<L: Ledger>(
     ensures verdict { IfOk result (λ v. v ≡ written (solid_of rows.now e) (spans_of at.now)) }
     ensures leaf { IfOk result IsVerdict }
     ensures places { IfOk result (λ v. IsOfPlaces (solid_of rows.now e) at.now v.class) }
+    ensures interior { (point : Vec3) → at.now ≡ box_of (point_cube point) → IfOk result (λ v.
+        v.class ≡ Class.Inside → IsInterior 1 (solid_of rows.now e) point) }
+    ensures exterior { (point : Vec3) → at.now ≡ box_of (point_cube point) → IfOk result (λ v.
+        v.class ≡ Class.Outside → IsExterior 1 (solid_of rows.now e) point) }
     ensures cause { IfOk result (HasCause rows.now e (spans_of at.now)) }
     ensures sharp { (p : Primitive) (point : Vec3) → row_at rows.now e ≡ row.Prim p 0 →
         IsSharp p → IsPointWithin far point → at.now ≡ box_of (point_cube point) →

@@ -52,8 +52,8 @@ pub fn local()
 
 /// A place is inside an entity exactly where it lies in its interior, and outside exactly where it
 /// lies in its exterior: where all places in a neighbourhood of it are so, at every finer scale.
-/// Where the verdict over a box is `Inside`, each place in the box lies in the interior, and where it is
-/// `Outside`, in the exterior; and so does the point of a box that is a single point.
+/// Where the verdict over a box is `Inside`, each place in the box lies in the interior, and where
+/// it is `Outside`, in the exterior; and so does the point of a box that is a single point.
 pub fn interior()
     ensures inside { (m : ℕ) (rows : List Entity) (e : ℕ) (at : Vec3) →
         (place_class m (solid_of rows e) at ≡ Class.Inside) ↔

@@ -1,9 +1,10 @@
-use Rattle.std.proofs.Common.{refl, sym, ap, ◌∙◌, subst}
+use Rattle.std.proofs.Common.{refl, sym, ap, arith, ◌∙◌, subst}
 use Rattle.solid_base.specs.Classes.{IsVerdict}
 use Rattle.solid_base.specs.Graph.{AreSound, weight_of, most_weight}
 use Rattle.solid_base.specs.Ledgers.{RisesUpTo}
 use Rattle.solid_base.specs.Ranges.{IsLawfulRow}
 use Rattle.fixed_enclosure.specs.Places.{spans_of}
+use Rattle.fixed_enclosure.specs.Spans.{BoxHolds}
 use Rattle.affine_pull.proofs.LawfulChains.{lawful-row}
 use Rattle.solid_eval.specs.Solids.{solid_of}
 use Rattle.solid_eval.specs.Uses.{leaf_count}
@@ -13,6 +14,7 @@ use Rattle.solid_eval.specs.Causes.{HasCause}
 use Rattle.solid_eval.proofs.Causes.{open_use}
 use Rattle.solid_eval.proofs.Counting.{up_to}
 use Rattle.solid_eval.proofs.Mixed.{is_verdict}
+use Rattle.solid_eval.proofs.Settled.{inside-settled, outside-settled, point-held}
 use Rattle.solid_eval.proofs.Sharp.{sharp_point}
 use Rattle.solid_eval.proofs.Sound.{of_places}
 use Rattle.solid_eval.proofs.Taken.{evaluated_verdict, evaluated_count, rises_by}
@@ -34,6 +36,20 @@ returns-clause-places g c =
     let box = c.args.at.now in
     subst (λ v. IsOfPlaces (solid_of rows c.args.e) box v.class) (sym (returns-clause-verdict g c))
     (of_places rows c.args.e box c.requires.rows)
+
+pub returns-clause-interior : goal.returns-clause-interior
+returns-clause-interior g c point alone is =
+    let same = ap (λ v. v.class) (sym (returns-clause-verdict g c)) in
+    let held = subst (λ box. BoxHolds 1 box point) (sym alone) (point-held point) in
+    inside-settled 1 c.args.rows.now c.args.e c.args.at.now point (omega arith) c.requires.rows held
+    (same ∙ is)
+
+pub returns-clause-exterior : goal.returns-clause-exterior
+returns-clause-exterior g c point alone is =
+    let same = ap (λ v. v.class) (sym (returns-clause-verdict g c)) in
+    let held = subst (λ box. BoxHolds 1 box point) (sym alone) (point-held point) in
+    outside-settled 1 c.args.rows.now c.args.e c.args.at.now point (omega arith) c.requires.rows
+    held (same ∙ is)
 
 pub returns-clause-cause : goal.returns-clause-cause
 returns-clause-cause g c =
