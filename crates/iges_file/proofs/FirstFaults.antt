@@ -1,10 +1,11 @@
 -- The fault of a part is the file's first fault, where the parts before it are whole.
-use Rattle.std.proofs.Common.{◌≡◌, ℕ, ◌≤◌, ◌<◌, List, length, Err, refl}
+use Rattle.std.proofs.Common.{◌≡◌, ℕ, ◌≤◌, ◌<◌, List, length, refl}
 use Rattle.iges_cards.specs.declared.reader.Cards.{Cards}
 use Rattle.iges_cards.specs.declared.faults.CardFault.{CardFault}
 use Rattle.iges_cards.specs.declared.faults.CardFault.TheVariants as card
 use Rattle.iges_cards.specs.Grammar.{IsFixedForm}
-use Rattle.iges_cards.specs.Reading.{cards_in}
+use Rattle.iges_cards.specs.FirstFault.{IsCardFault}
+use Rattle.iges_cards.proofs.FirstFaultLaws.{fault_read}
 use Rattle.iges_cards.specs.Words as cards
 use Rattle.iges_directory.specs.declared.globals.GlobalText.{GlobalText}
 use Rattle.iges_directory.specs.declared.global_faults.GlobalFault.{GlobalFault}
@@ -29,16 +30,16 @@ use Rattle.iges_parameters.specs.Accepted.{lines_of, most_lines}
 use Rattle.iges_file.specs.Entities.{IsRowsFault, AreEntities}
 use Rattle.iges_file.specs.Files.{Refused}
 
-pub card_refused : (bytes : List ℕ) (f : CardFault) → (cards.IsOfText f → cards_in bytes ≡ Err f) → IsOfText (of_card f) → Refused bytes (of_card f)
+pub card_refused : (bytes : List ℕ) (f : CardFault) → (cards.IsOfText f → IsCardFault bytes f) → IsOfText (of_card f) → Refused bytes (of_card f)
 card_refused bytes (card.Memory e) h text = absurd text
-card_refused bytes card.NotFixed h text = h text
-card_refused bytes (card.ShortLine line) h text = h text
-card_refused bytes (card.LongLine line) h text = h text
-card_refused bytes (card.BadSection line) h text = h text
-card_refused bytes (card.BadSequence line) h text = h text
-card_refused bytes card.NoTerminate h text = h text
-card_refused bytes card.BadTerminate h text = h text
-card_refused bytes (card.CountMismatch section told found) h text = h text
+card_refused bytes card.NotFixed h text = fault_read bytes card.NotFixed (h text)
+card_refused bytes (card.ShortLine line) h text = fault_read bytes (card.ShortLine line) (h text)
+card_refused bytes (card.LongLine line) h text = fault_read bytes (card.LongLine line) (h text)
+card_refused bytes (card.BadSection line) h text = fault_read bytes (card.BadSection line) (h text)
+card_refused bytes (card.BadSequence line) h text = fault_read bytes (card.BadSequence line) (h text)
+card_refused bytes card.NoTerminate h text = fault_read bytes card.NoTerminate (h text)
+card_refused bytes card.BadTerminate h text = fault_read bytes card.BadTerminate (h text)
+card_refused bytes (card.CountMismatch section told found) h text = fault_read bytes (card.CountMismatch section told found) (h text)
 
 pub global_refused : (bytes : List ℕ) (cs : Cards) (f : GlobalFault) → IsFixedForm bytes cs → IsFaultOf cs.global f → IsOfText (of_global f) → Refused bytes (of_global f)
 global_refused bytes cs (global.Memory e) form h text = absurd text

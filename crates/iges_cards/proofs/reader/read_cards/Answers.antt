@@ -15,13 +15,6 @@ loop-rest-init c = rw (c.new-counts.ensures, c.new-cards.ensures) (record {
   reads = starts_with_all c.args.bytes.now;
 })
 
-pub returns-in_err-section-clause-read_fault : goal.returns-in_err-section-clause-read_fault
-returns-in_err-section-clause-read_fault c =
-    let p = err_from_is_err_and c.from_residual.result c.from_residual.ensures.1 in
-    let l = c.loop-rest in
-    let e = stops l.rest.now c.split_line.result.0.now c.split_line.result.1.now l.before l.counts l.cards _ c.in_err-section.field-0.0 (cards_in c.args.bytes.now) c.split_line.ensures.first c.in_err-section.ensures.value l.invariant.reads in
-    rw (p.1, p.2) (λ _. e)
-
 pub returns-in_err-section-clause-first_fault : goal.returns-in_err-section-clause-first_fault
 returns-in_err-section-clause-first_fault c =
     let p = err_from_is_err_and c.from_residual.result c.from_residual.ensures.1 in
@@ -29,24 +22,10 @@ returns-in_err-section-clause-first_fault c =
     let e = stops l.rest.now c.split_line.result.0.now c.split_line.result.1.now l.before l.counts l.cards _ c.in_err-section.field-0.0 (cards_in c.args.bytes.now) c.split_line.ensures.first c.in_err-section.ensures.value l.invariant.reads in
     rw (p.1, p.2) (λ _. fault_found c.args.bytes.now _ e)
 
-pub returns-in_err-keep-clause-read_fault : goal.returns-in_err-keep-clause-read_fault
-returns-in_err-keep-clause-read_fault c =
-    let p = err_from_is_err_and c.from_residual-in_err-keep.result c.from_residual-in_err-keep.ensures.1 in
-    rw (p.1, p.2) (λ text. absurd (text refl))
-
 pub returns-in_err-keep-clause-first_fault : goal.returns-in_err-keep-clause-first_fault
 returns-in_err-keep-clause-first_fault c =
     let p = err_from_is_err_and c.from_residual-in_err-keep.result c.from_residual-in_err-keep.ensures.1 in
     rw (p.1, p.2) (λ text. absurd (text refl))
-
-pub returns-in_err-check_counts-clause-read_fault :
-    goal.returns-in_err-check_counts-clause-read_fault
-returns-in_err-check_counts-clause-read_fault c =
-    let p = err_from_is_err_and c.from_residual-in_err-check_counts.result c.from_residual-in_err-check_counts.ensures.1 in
-    let l = c.loop-rest in
-    let e = stops_at_counts l.rest.now c.split_line.result.0.now c.split_line.result.1.now c.in_ok-section.columns.now l.before l.counts l.cards c.in_ok-section.section _ c.in_err-check_counts.field-0.0 (cards_in c.args.bytes.now)
-    c.split_line.ensures.first c.in_ok-section.ensures.value (sym c.is_terminate.ensures ∙ c.if-is_terminate.true) c.in_err-check_counts.ensures l.invariant.reads in
-    rw (p.1, p.2) (λ _. e)
 
 pub returns-in_err-check_counts-clause-first_fault :
     goal.returns-in_err-check_counts-clause-first_fault
@@ -86,9 +65,6 @@ loop-rest-preserved c =
       reads = goes_on c.args.bytes.now l.rest.now c.split_line.result.0.now c.split_line.result.1.now c.in_ok-section.columns.now l.before l.counts l.cards c.in_ok-section.section (cards_in c.args.bytes.now)
           l.invariant.within c.split_line.ensures.first c.in_ok-section.ensures.value (sym c.is_terminate.ensures ∙ c.if-is_terminate.false) l.invariant.reads;
     })
-
-pub returns-clause-read_fault : goal.returns-clause-read_fault
-returns-clause-read_fault c = λ _. no_more c.loop-rest.rest.now c.loop-rest.before c.loop-rest.counts c.loop-rest.cards _ (cards_in c.args.bytes.now) (sym c.is_empty.ensures ∙ c.loop-rest-test.false) c.loop-rest.invariant.reads
 
 pub returns-clause-first_fault : goal.returns-clause-first_fault
 returns-clause-first_fault c = λ _. fault_found c.args.bytes.now _ (no_more c.loop-rest.rest.now c.loop-rest.before c.loop-rest.counts c.loop-rest.cards _ (cards_in c.args.bytes.now) (sym c.is_empty.ensures ∙ c.loop-rest-test.false) c.loop-rest.invariant.reads)

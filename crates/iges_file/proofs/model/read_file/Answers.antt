@@ -5,7 +5,7 @@ use Rattle.iges_cards.proofs.KeptLaws.{cards_are_kept}
 use Rattle.iges_file.proofs.AcceptedFacts.{model_accepted}
 use Rattle.iges_file.proofs.FormFacts.{global_short}
 use Rattle.iges_file.proofs.DirectoryFacts.{few_pairs, all_have_lines, all_are_kept}
-use Rattle.iges_file.proofs.FirstFaults.{global_refused, directory_refused, rows_refused, lines_refused, graph_refused}
+use Rattle.iges_file.proofs.FirstFaults.{card_refused, global_refused, directory_refused, rows_refused, lines_refused, graph_refused}
 use Rattle.iges_file.proofs.RowLoops.{entities_counted}
 use Rattle.iges_parameters.specs.Accepted.{lines_of, most_lines}
 use Rattle.iges_file.proofs.model.read_file.Goals as goal
@@ -13,6 +13,11 @@ use Rattle.iges_file.proofs.model.read_file.Goals as goal
 pub read_global-requires : goal.read_global-requires
 read_global-requires c =
     record { size = rw c.as_slice.ensures (omega (arith, global_short c.args.bytes.now c.in_ok-cards.cards c.in_ok-cards.ensures.fixed_form, c.requires)) }
+
+pub returns-in_err-cards-clause-refused : goal.returns-in_err-cards-clause-refused
+returns-in_err-cards-clause-refused c =
+    let p = err_from_is_err_and c.from_residual.result c.from_residual.ensures.1 in
+    rw (p.1, p.2) (card_refused c.args.bytes.now c.in_err-cards.field-0.0 c.in_err-cards.ensures.first_fault)
 
 pub returns-in_err-global-clause-refused : goal.returns-in_err-global-clause-refused
 returns-in_err-global-clause-refused c =
