@@ -15,9 +15,8 @@ use Rattle.solid_eval.specs.Classes.{place_class}
 use Rattle.solid_eval.specs.Interior.{IsInterior, IsExterior}
 use Rattle.solid_eval.specs.Solids.{solid_of}
 use Rattle.solid_eval.specs.Written.{written}
-use Rattle.solid_eval.proofs.AllSolids.{lawful-solid}
 use Rattle.solid_eval.proofs.Interior.{interior, exterior}
-use Rattle.solid_eval.proofs.Sound.{sound, decided}
+use Rattle.solid_eval.proofs.Sound.{decided, of_places}
 
 module _ (m : ℕ) (rows : List Entity) (e : ℕ) (box : Box3) (at : Vec3) (parts : 0 < m)
     (lawful : AllByRecursion (λ (e : Entity). IsLawfulRow e.row) rows)
@@ -25,16 +24,12 @@ module _ (m : ℕ) (rows : List Entity) (e : ℕ) (box : Box3) (at : Vec3) (part
   pub inside-exact : (written (solid_of rows e) (spans_of box)).class ≡ Inside
       → place_class m (solid_of rows e) at ≡ Inside
   inside-exact is =
-      let ranges = lawful-solid rows e lawful in
-      let known = sound m (solid_of rows e) (spans_of box) at parts ranges held in
-      decided _ _ Inside known is (λ n. cc)
+      decided _ _ Inside (of_places rows e box lawful m at parts held) is (λ n. cc)
 
   pub outside-exact : (written (solid_of rows e) (spans_of box)).class ≡ Outside
       → place_class m (solid_of rows e) at ≡ Outside
   outside-exact is =
-      let ranges = lawful-solid rows e lawful in
-      let known = sound m (solid_of rows e) (spans_of box) at parts ranges held in
-      decided _ _ Outside known is (λ n. cc)
+      decided _ _ Outside (of_places rows e box lawful m at parts held) is (λ n. cc)
 
   pub inside-settled : (written (solid_of rows e) (spans_of box)).class ≡ Inside
       → IsInterior m (solid_of rows e) at
