@@ -1,14 +1,15 @@
 #!/usr/bin/env python3
 """turn_times.py [--runs K] [--instructions] [--keep FOLDER]
 
-Times five million times take and give of turn_book, on one thread and on two that contend, with the book given
-back as it was and with an entry more; and beside it the same with a lock of the standard library round the same
-book: the kit's `Mutex`, and Rust's where there is a `rustc`. Prints for one take and give the least microseconds
-that passed, and the least processor time of all threads. With `--instructions`, which needs valgrind, it counts
-in place of that the instructions of one take and give on one thread, which no load of the machine changes.
+Times five million times take and give of turn_book, on one thread and on two that contend, with
+the book given back as it was and with an entry more; and beside it the same with a lock of the
+standard library round the same book: the kit's `Mutex`, and Rust's where there is a `rustc`.
+Prints for one take and give the least microseconds that passed, and the least processor time of
+all threads. With `--instructions`, which needs valgrind, it counts in place of that the
+instructions of one take and give on one thread, which no load of the machine changes.
 
-The timed program is made in a folder of its own, from the crates of this repository, and is proved and built there
-by `rt run`; `--keep` names a folder to use again.
+The timed program is made in a folder of its own, from the crates of this repository, and is proved
+and built there by `rt run`; `--keep` names a folder to use again.
 """
 import argparse
 import os
@@ -255,7 +256,8 @@ def build_rust(folder):
 def seconds(program, what, words):
     """The time that passed, and the processor time of all threads."""
     before, start = resource.getrusage(resource.RUSAGE_CHILDREN), time.monotonic()
-    run = subprocess.run([program, what, *words.split()], capture_output=True, text=True, check=True)
+    command = [program, what, *words.split()]
+    run = subprocess.run(command, capture_output=True, text=True, check=True)
     passed, after = time.monotonic() - start, resource.getrusage(resource.RUSAGE_CHILDREN)
     if int(run.stdout) != (ROUNDS if words.endswith("adds") else 0):
         raise SystemExit("entries were lost: " + run.stdout)
@@ -268,14 +270,17 @@ def least(program, what, words, runs):
 
 
 def instructions(program, what, words):
-    command = ["valgrind", "--tool=callgrind", "--callgrind-out-file=/dev/null", program, what, *words.split()]
+    command = ["valgrind", "--tool=callgrind", "--callgrind-out-file=/dev/null", program, what]
+    command += words.split()
     run = subprocess.run(command, capture_output=True, text=True, check=True)
     return "%16.1f" % (int(re.search(r"Collected : (\d+)", run.stderr).group(1)) / ROUNDS)
 
 
 def main():
     parser = argparse.ArgumentParser(
-        usage=argparse.SUPPRESS, description=__doc__, formatter_class=argparse.RawDescriptionHelpFormatter
+        usage=argparse.SUPPRESS,
+        description=__doc__,
+        formatter_class=argparse.RawDescriptionHelpFormatter,
     )
     parser.add_argument("--runs", type=int, default=3)
     parser.add_argument("--instructions", action="store_true")
@@ -284,7 +289,9 @@ def main():
     with tempfile.TemporaryDirectory() as temporary:
         folder = os.path.abspath(args.keep or temporary)
         turn, rust = build_turn(folder), build_rust(folder)
-        peers = [(turn, "turn", "turn"), (turn, "lock", "Mutex")] + ([(rust, "lock", "Rust's")] if rust else [])
+        peers = [(turn, "turn", "turn"), (turn, "lock", "Mutex")]
+        if rust:
+            peers.append((rust, "lock", "Rust's"))
         head = "instructions" if args.instructions else "microseconds: passed, processor"
         print("%-36s" % head + "".join("%16s" % name for _, _, name in peers))
         for words, case in CASES[:2] if args.instructions else CASES:
