@@ -20,7 +20,7 @@ use Rattle.fixed_enclosure.specs.Places.{Span3}
 use Rattle.boolean_tree.proofs.Counts.{operands_of-operation}
 use Rattle.affine_pull.specs.Chains.{chain_of, spans_through}
 use Rattle.affine_pull.proofs.LawfulChains.{lawful-row}
-use Rattle.entity_graph.specs.Opaque.{ReachesOpaque}
+use Rattle.entity_graph.specs.Opaque.{IsUnread, ReachesOpaque, IsFirstOpaque}
 use Rattle.entity_graph.proofs.Levels.{no_levels}
 use Rattle.entity_graph.proofs.Numbers.{is_number}
 use Rattle.solid_eval.specs.Passing.{Passes, item_weight, NamesEntity}
@@ -174,3 +174,9 @@ module _ (rows : List Entity) (lawful : AllByRecursion (λ (e : Entity). IsLawfu
 
     pub no_level : levels ≡ 0 → ⊥
     no_level none = let one = (no_levels rows sound.shallow e).depth in omega (arith, one, deep, none)
+
+-- ---- what the least unread entity tells
+pub none_unread : (rows : List Entity) (e n : ℕ) → IsFirstOpaque rows e n → n ≡ 0 → (k : ℕ) → ¬ ReachesOpaque rows e k
+unfolding row_at
+none_unread rows e n (inl h) is k r = h.1 k r
+none_unread rows e n (inr h) is k r = subst (λ n. IsUnread (row_at rows n)) is h.0.1

@@ -1,9 +1,12 @@
 //! Verdicts at points, by hand: balls that are moved, cut, placed and shown again.
-ghost use Rattle.std.specs.Prelude.{◌<◌, ◌≤◌, IfOk};
+ghost use Rattle.std.specs.Prelude.{◌≡◌, ◌<◌, ◌≤◌, ℕ, IfOk};
 ghost use Rattle.std.specs.List.{AllByRecursion};
 ghost use Rattle.std.specs.Arc.{arc_value};
 ghost use Rattle.solid_base.specs.declared.solids.Row.TheVariants as row;
+ghost use Rattle.solid_base.specs.Graph.{weight_of};
 ghost use Rattle.solid_base.specs.Ranges.{IsLawfulRow};
+ghost use Rattle.solid_base.specs.References.{HasNumber};
+ghost use Rattle.entity_graph.specs.Opaque.{ReachesOpaque};
 ghost use Rattle.fixed_enclosure.specs.Spans.{IsEnc, IsBox};
 
 use super::*;
@@ -12,7 +15,7 @@ use entity_graph::{Graph, GraphFault};
 use fixed_enclosure::{Box3, Enc};
 use solid_base::{
     Affine, Bytes, Class, Entity, Item, Items, List, Placed, Prim, Row, Rows, Tally, U, Vec3,
-    Verdict,
+    Verdict, Verdicts,
 };
 use std::alloc::{AllocError, Global};
 use std::process::Abort;
@@ -189,6 +192,81 @@ fn verdicts_at_points(rt: HostRuntime) -> Result<(), GraphFault> {
         let verdict = afresh(rt.alloc(), &rows, &graph, e, &place(&rt, at), &mut leaves)?;
         assert_eq!(rt; verdict, Verdict { class, leaf }, "{e} at {at:?}");
         assert_eq!(rt; leaves.count, count, "{e} at {at:?}");
+    }
+    Ok(())
+}
+
+// Some entity has the number, it reaches nothing unread, and weighs more than k.
+#[tactic(auto, using(crate::proofs::PassedParts::none_unread))]
+fn has_use(rt: &impl Abort, rows: &Rows, graph: &Graph, e: u32, k: u64)
+    requires { graph.now ≡ rows.now }
+    ensures number { HasNumber rows.now e }
+    ensures read { (n : ℕ) → ¬ ReachesOpaque rows.now e n }
+    ensures within { k < weight_of rows.now e }
+{
+    assert!(rt; e % 2 == 1 && ((e / 2) as usize) < rows.len());
+    assert!(rt; graph.opaque(e) == 0 && k < graph.weight(e));
+}
+
+#[test]
+fn uses_at_places(rt: HostRuntime) -> Result<(), GraphFault> {
+    let rows = rows(&rt, rt.alloc())?;
+    assert!(rt; rows.len() < 100);
+    let graph = Graph::check(rt.alloc(), &rows)?;
+    let cases = [
+        // An operand's use is where the tree is asked.
+        (9, (20, 3, 0), 0, 1, (20, 3, 0)),
+        (9, (20, 3, 0), 1, 7, (20, 3, 0)),
+        (11, (0, 0, 0), 1, 1, (0, 0, 0)),
+        // Number 13 turns its item from X to Y, and moves it by 20 along X.
+        (13, (20, 23, 0), 0, 7, (23, 0, 0)),
+        // Number 15 moves its child by 20 along X.
+        (15, (43, 0, 0), 0, 7, (23, 0, 0)),
+        // A primitive is asked before its own matrix.
+        (7, (23, 0, 0), 0, 7, (23, 0, 0)),
+    ];
+    for (e, at, k, number, before) in cases {
+        has_use(&rt, &rows, &graph, e, k);
+        let found = leaf_at(&rows, &graph, e, &place(&rt, at), k);
+        assert_eq!(rt; found, (number, place(&rt, before)), "use {k} of {e}");
+    }
+    Ok(())
+}
+
+#[test]
+fn verdicts_from_given_verdicts(rt: HostRuntime) -> Result<(), GraphFault> {
+    let rows = rows(&rt, rt.alloc())?;
+    assert!(rt; rows.len() < 100);
+    let graph = Graph::check(rt.alloc(), &rows)?;
+    let inside = Verdict {
+        class: Class::Inside,
+        leaf: 0,
+    };
+    let outside = Verdict {
+        class: Class::Outside,
+        leaf: 0,
+    };
+    let open = Verdict {
+        class: Class::Mixed,
+        leaf: 7,
+    };
+    let cases = [
+        (9, [inside, outside], inside),
+        (9, [inside, inside], outside),
+        (9, [inside, open], open),
+        (9, [outside, open], outside),
+        // One verdict is enough here.
+        (13, [inside, outside], inside),
+        (15, [open, outside], open),
+    ];
+    for (e, leaves, want) in cases {
+        has_use(&rt, &rows, &graph, e, 0);
+        let mut stack = Verdicts::new(rt.alloc());
+        stack.push(open)?;
+        stack.reserve(graph.weight(e) as usize)?;
+        let verdict = combine(&rows, &graph, e, leaves.as_slice(), &mut stack);
+        assert_eq!(rt; verdict, want, "{e} from {leaves:?}");
+        assert_eq!(rt; stack.as_slice(), [open].as_slice());
     }
     Ok(())
 }
