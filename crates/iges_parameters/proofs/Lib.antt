@@ -15,6 +15,12 @@ pub mod TreesLawful
 pub mod NumbersRead
 pub mod RowsRead
 pub mod TreesBlamed
+pub mod FieldFaults
+pub mod FirstFaults
+pub mod TailFaults
+pub mod RecordsByTables
+pub mod ParametersTogether
+pub mod RecordFaultsRead
 pub mod PlacedNumbers
 pub mod PlacedItems
 pub mod TypesRead

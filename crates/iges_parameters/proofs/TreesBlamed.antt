@@ -27,7 +27,7 @@ use Rattle.iges_parameters.proofs.TreesLawful.{AreRead, none_read, one_read, in_
 -- ---- faults of steps
 
 -- a step failed, or the next one did
-bind_err : {A B : Type 0} (r : Result A RowFault) (f : A → Result B RowFault) (e : RowFault) → r >>= f ≡ Err e → (r ≡ Err e) ⊎ ((x : A) × (r ≡ Ok x) × (f x ≡ Err e))
+pub bind_err : {A B : Type 0} (r : Result A RowFault) (f : A → Result B RowFault) (e : RowFault) → r >>= f ≡ Err e → (r ≡ Err e) ⊎ ((x : A) × (r ≡ Ok x) × (f x ≡ Err e))
 bind_err (Ok x) f e h = inr (x, refl, h)
 bind_err (Err g) f e h = inl (let same : g ≡ e = cc in ap (λ (z : RowFault). Err z) same)
 
@@ -167,7 +167,7 @@ no_number : (before : List Item) (index n : ℕ) → (n ≡ 0) ⊎ (3 < n) → I
 no_number before index n (inl e) = inl (ap (λ (k : ℕ). pos k) e)
 no_number before index n (inr more) = inr (inl (grind (arith, more)))
 
-item_wrong : (index k : ℕ) (before : List Item) (n : ℤ) → item_with index before n ≡ Err (fault.BadPostfix k) → AreRead before → index ≡ length before + 2 → (index ≡ k) × IsNoItem k before n
+pub item_wrong : (index k : ℕ) (before : List Item) (n : ℤ) → item_with index before n ≡ Err (fault.BadPostfix k) → AreRead before → index ≡ length before + 2 → (index ≡ k) × IsNoItem k before n
 unfolding item_with
 item_wrong index k before (negsuc n) h read place = cc
 item_wrong index k before (pos n) h read place = go (nat_lt (length (trees_of_items before)) 2) refl h where

@@ -9,3 +9,4 @@ pub mod Writing
 pub mod TreeFaults
 pub mod WrittenRows
 pub mod Accepted
+pub mod RecordFaults

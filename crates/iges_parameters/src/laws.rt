@@ -1,5 +1,5 @@
 ghost use Rattle.std.specs.List.{AllByRecursion, concat};
-ghost use Rattle.std.specs.Prelude.{◌≡◌, ℕ, List, map, Some, Ok, Err};
+ghost use Rattle.std.specs.Prelude.{◌≡◌, ◌↔◌, ℕ, List, map, Option, Some, Ok, Err};
 ghost use Rattle.solid_base.specs.declared.entities.Token.{Token};
 ghost use Rattle.solid_base.specs.declared.solids.Row.{Row};
 ghost use Rattle.solid_base.specs.declared.entities.Model.{Model};
@@ -13,6 +13,7 @@ ghost use Rattle.iges_parameters.specs.Rules.{Place};
 ghost use Rattle.iges_parameters.specs.Lists.{tree_at};
 ghost use Rattle.iges_parameters.specs.TreeFaults.{IsTreeFault};
 ghost use Rattle.iges_parameters.specs.Records.{record_of};
+ghost use Rattle.iges_parameters.specs.RecordFaults.{IsRecordFault};
 ghost use Rattle.iges_parameters.specs.Writing.{tokens_of, kept_text, IsOfRecord, type_of_row};
 ghost use Rattle.iges_parameters.specs.Writing.{form_of_row, matrix_of_row};
 
@@ -31,6 +32,17 @@ pub fn tokens_are_fields()
     ensures { (comma semi : ℕ) (text : List ℕ) (tokens : List Token) →
         Reads comma semi text tokens →
         fields_of comma semi text ≡ map Some tokens }
+{}
+
+/// A record is refused exactly with its first fault, and it has one at most: of a type that isn't
+/// read; else of the first field that has one, where the table says what is wanted of each; else of
+/// the parameters together; else of the first place after them where no field stands.
+pub fn one_fault()
+    ensures refused { (kind form matrix : ℕ) (fields : List (Option Token)) (fault : RowFault) →
+        (record_of kind form matrix fields ≡ Err fault) ↔ IsRecordFault kind form fields fault }
+    ensures unique { (kind form : ℕ) (fields : List (Option Token)) (fault other : RowFault) →
+        IsRecordFault kind form fields fault → IsRecordFault kind form fields other →
+        fault ≡ other }
 {}
 
 /// Where BadPostfix names a parameter of a Boolean tree, the items before it are whole trees, and

@@ -9,6 +9,7 @@ ghost use Rattle.iges_parameters.specs.Rules.{MovesUpTo};
 ghost use Rattle.iges_parameters.specs.Tables.{is_read};
 ghost use Rattle.iges_parameters.specs.Records.{tree_row, assembly_row, row_at, record_of};
 ghost use Rattle.iges_parameters.specs.Records.{record_in};
+ghost use Rattle.iges_parameters.specs.RecordFaults.{IsRecordFaultIn};
 
 use crate::faults::RowFault;
 use crate::reading::assemblies::assembly;
@@ -91,7 +92,9 @@ pub fn read_row(
     requires text { length source.now.text ≤ 2 ^ 25 }
     requires delimiters { AreDelimiters comma semi }
     ensures found { IfOk result (λ read. record_in comma semi source.now ≡ Ok (read.0, read.1)) }
-    ensures first_fault { IfErr result (λ fault. IsOfText fault → record_in comma semi source.now
+    ensures first_fault { IfErr result (λ fault. IsOfText fault →
+        IsRecordFaultIn comma semi source.now fault) }
+    ensures as_read { IfErr result (λ fault. IsOfText fault → record_in comma semi source.now
         ≡ Err fault) }
     ensures lawful { IfOk result (λ read. IsLawfulRow read.0) }
     ensures spelt { IfOk result (λ read. AreSpelt read.1) }
@@ -116,7 +119,7 @@ pub fn read_row(
 /// than two trees stand. After the last item comes BadPostfix 1, where other than one tree is left;
 /// after all parameters BadAxis and BadMatrix; last, Token of a field after the parameters. Memory
 /// comes when out of memory.
-#[tactic(auto, unfolding(crate::specs::Records::record_of))]
+#[tactic(auto, using(crate::proofs::RecordFaultsRead::record_fault_in), unfolding(crate::specs::Records::record_of))]
 pub fn read_known_row(
     alloc: Global,
     source: &RowText,
@@ -127,7 +130,9 @@ pub fn read_known_row(
     requires text { length source.now.text ≤ 2 ^ 25 }
     requires delimiters { AreDelimiters comma semi }
     ensures found { IfOk result (λ read. record_in comma semi source.now ≡ Ok (read.0, read.1)) }
-    ensures first_fault { IfErr result (λ fault. IsOfText fault → record_in comma semi source.now
+    ensures first_fault { IfErr result (λ fault. IsOfText fault →
+        IsRecordFaultIn comma semi source.now fault) }
+    ensures as_read { IfErr result (λ fault. IsOfText fault → record_in comma semi source.now
         ≡ Err fault) }
     ensures lawful { IfOk result (λ read. IsLawfulRow read.0) }
     ensures spelt { IfOk result (λ read. AreSpelt read.1) }
