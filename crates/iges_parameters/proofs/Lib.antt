@@ -21,6 +21,7 @@ pub mod TailFaults
 pub mod RecordsByTables
 pub mod ParametersTogether
 pub mod RecordFaultsRead
+pub mod StandardFacts
 pub mod PlacedNumbers
 pub mod PlacedItems
 pub mod TypesRead
