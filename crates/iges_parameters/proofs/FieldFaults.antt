@@ -25,8 +25,7 @@ use Rattle.solid_base.specs.Outcomes.{◌>>=◌}
 use Rattle.iges_parameters.specs.Rules.{integer_of, is_far, near_steps, short_integer, whole_of, not_below_0, number_by, has_size, sized, default_of, value_of}
 use Rattle.iges_parameters.specs.Lists.{operation_with, item_with}
 use Rattle.iges_parameters.specs.Writing.{number_of_item}
-use Rattle.iges_parameters.specs.TreeFaults.{IsNoItem}
-use Rattle.iges_parameters.specs.RecordFaults.{Wanted, type_number, ruled, tree_item, steps_in, number_in, number_of_field, item_of_number, items_among, is_beyond_steps, is_long, is_beyond, IsOutside, is_whole, IsWrongItem, IsFieldFault}
+use Rattle.iges_parameters.specs.RecordFaults.{IsNoItem, Wanted, type_number, ruled, tree_item, steps_in, number_in, number_of_field, item_of_number, items_among, is_beyond_steps, is_long, is_beyond, IsOutside, is_whole, IsWrongItem, IsFieldFault}
 use Rattle.iges_parameters.proofs.ItemsSteps.{bind_ok, ok_same, not_stopped}
 use Rattle.iges_parameters.proofs.TreesLawful.{AreRead}
 use Rattle.iges_parameters.proofs.TreesBlamed.{bind_err, item_wrong}

@@ -6,7 +6,6 @@ pub mod Rows
 pub mod Lists
 pub mod Records
 pub mod Writing
-pub mod TreeFaults
 pub mod WrittenRows
 pub mod Accepted
 pub mod RecordFaults

@@ -3,10 +3,11 @@
 use Rattle.std.specs.Prelude.{◌≡◌, ◌⊎◌, ℕ, ◌+◌, ◌<◌, ◌≤◌, List, [], ◌∷◌, ◌++◌, length, map}
 use Rattle.std.specs.Prelude.{take, drop, get_or, replicate, Bool, true, false, cond, ◌||◌}
 use Rattle.std.specs.Prelude.{◌&&◌, ◌==◌, nat_lt, Option, Some, None, Result, Ok, Err}
-use Rattle.std.specs.Prelude.{ℤ, pos, negsuc, unsigned_abs, int_lt}
+use Rattle.std.specs.Prelude.{ℤ, pos, negsuc, ◌<ℤ◌, unsigned_abs, int_lt}
 use Rattle.std.specs.List.{slice_get}
 use Rattle.std.specs.Ordering.{int_eq}
 use Rattle.solid_base.specs.Ranges.{most_whole, column1, column2, column3}
+use Rattle.solid_base.specs.Trees.{Operation, item_of}
 use Rattle.solid_base.specs.declared.entities.Token.{Token}
 use Rattle.solid_base.specs.declared.entities.Token.TheVariants as token
 use Rattle.solid_base.specs.declared.entities.RowText.{RowText}
@@ -15,7 +16,7 @@ use Rattle.solid_base.specs.declared.solids.Item.{Item}
 use Rattle.solid_base.specs.declared.solids.Item.TheVariants as item
 use Rattle.decimal_scale.specs.declared.faults.RealFault.{RealFault}
 use Rattle.decimal_scale.specs.Reading.{reading_of}
-use Rattle.boolean_tree.specs.Faults.{LeavesOthers}
+use Rattle.boolean_tree.specs.Faults.{LacksOperands, LeavesOthers}
 use Rattle.iges_parameters.specs.declared.faults.RowFault.{RowFault}
 use Rattle.iges_parameters.specs.declared.faults.RowFault.TheVariants as fault
 use Rattle.iges_parameters.specs.declared.tables.Rule.{Rule}
@@ -29,7 +30,7 @@ use Rattle.iges_parameters.specs.Tables.{instance_rules, list_rules, count, numb
 use Rattle.iges_parameters.specs.Tables.{is_read}
 use Rattle.iges_parameters.specs.Rows.{point_at, affine_of}
 use Rattle.iges_parameters.specs.Rows.{is_unit, is_right_angle, are_orthonormal}
-use Rattle.iges_parameters.specs.TreeFaults.{IsNoItem}
+use Rattle.iges_parameters.specs.Writing.{number_of_item}
 
 -- ---- what is wanted
 
@@ -121,6 +122,14 @@ abbrev pub IsOutside : ℕ → Bool → Bool → RowFault → Type 0
 IsOutside index true sized f = f ≡ fault.TooFar index
 IsOutside index false false f = f ≡ fault.BadSize index
 IsOutside index false true f = ⊥
+
+-- IGES 5.3, type 180: parameter n has this number: it is no item's, or it is an operation's that
+-- lacks operands after these items
+abbrev pub IsNoItem : ℕ → List Item → ℤ → Type 0
+IsNoItem n before number =
+    (number ≡ pos 0) ⊎ ((pos 3 <ℤ number)
+    ⊎ ((o : Operation) × (number ≡ number_of_item (item_of o))
+    × LacksOperands n (before ++ item_of o ∷ [])))
 
 -- solidd's own: an item's number beyond its bounds is TooFar; one within them that is no item after
 -- these is BadPostfix

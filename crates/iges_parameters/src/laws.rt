@@ -9,9 +9,6 @@ ghost use Rattle.iges_fields.specs.Delimiters.{AreDelimiters};
 ghost use Rattle.iges_fields.specs.Layout.{Reads, AreLines};
 ghost use Rattle.iges_parameters.specs.Accepted.{IsAccepted, IsWritable};
 ghost use Rattle.iges_parameters.specs.RecordFields.{fields_of};
-ghost use Rattle.iges_parameters.specs.Rules.{Place};
-ghost use Rattle.iges_parameters.specs.Lists.{tree_at};
-ghost use Rattle.iges_parameters.specs.TreeFaults.{IsTreeFault};
 ghost use Rattle.iges_parameters.specs.Records.{record_of};
 ghost use Rattle.iges_parameters.specs.RecordFaults.{IsRecordFault};
 ghost use Rattle.iges_parameters.specs.Writing.{tokens_of, kept_text, IsOfRecord, type_of_row};
@@ -43,14 +40,6 @@ pub fn one_fault()
     ensures unique { (kind form : ℕ) (fields : List (Option Token)) (fault other : RowFault) →
         IsRecordFault kind form fields fault → IsRecordFault kind form fields other →
         fault ≡ other }
-{}
-
-/// Where BadPostfix names a parameter of a Boolean tree, the items before it are whole trees, and
-/// it is no item or an operation that lacks operands; or it is parameter 1, and the items leave
-/// other than one tree.
-pub fn trees_blame_no_item()
-    ensures { (p : Place) (n : ℕ) → p.index ≡ 1 → tree_at p ≡ Err (RowFault.BadPostfix n) →
-        IsTreeFault n p }
 {}
 
 /// The rows of an accepted model can be written with its delimiters: what `row_lines` asks holds of
