@@ -5,7 +5,6 @@ use Rattle.iges_cards.specs.declared.faults.CardFault.{CardFault}
 use Rattle.iges_cards.specs.declared.faults.CardFault.TheVariants as card
 use Rattle.iges_cards.specs.Grammar.{IsFixedForm}
 use Rattle.iges_cards.specs.FirstFault.{IsCardFault}
-use Rattle.iges_cards.proofs.FirstFaultLaws.{fault_read}
 use Rattle.iges_cards.specs.Words as cards
 use Rattle.iges_directory.specs.declared.globals.GlobalText.{GlobalText}
 use Rattle.iges_directory.specs.declared.global_faults.GlobalFault.{GlobalFault}
@@ -17,7 +16,6 @@ use Rattle.iges_directory.specs.Global.{IsGlobal, IsFaultOf}
 use Rattle.iges_directory.specs.Pairs.{IsDirectory}
 use Rattle.iges_directory.specs.DirectoryFaults as directories
 use Rattle.iges_directory.specs.FirstFaults.{IsDirectoryFault}
-use Rattle.iges_directory.proofs.FirstFaultLaws.{fault_again}
 use Rattle.entity_graph.specs.declared.graph_faults.GraphFault.{GraphFault}
 use Rattle.entity_graph.specs.declared.graph_faults.GraphFault.TheVariants as graph
 use Rattle.entity_graph.specs.GraphFaults as graphs
@@ -32,14 +30,14 @@ use Rattle.iges_file.specs.Files.{Refused}
 
 pub card_refused : (bytes : List ℕ) (f : CardFault) → (cards.IsOfText f → IsCardFault bytes f) → IsOfText (of_card f) → Refused bytes (of_card f)
 card_refused bytes (card.Memory e) h text = absurd text
-card_refused bytes card.NotFixed h text = fault_read bytes card.NotFixed (h text)
-card_refused bytes (card.ShortLine line) h text = fault_read bytes (card.ShortLine line) (h text)
-card_refused bytes (card.LongLine line) h text = fault_read bytes (card.LongLine line) (h text)
-card_refused bytes (card.BadSection line) h text = fault_read bytes (card.BadSection line) (h text)
-card_refused bytes (card.BadSequence line) h text = fault_read bytes (card.BadSequence line) (h text)
-card_refused bytes card.NoTerminate h text = fault_read bytes card.NoTerminate (h text)
-card_refused bytes card.BadTerminate h text = fault_read bytes card.BadTerminate (h text)
-card_refused bytes (card.CountMismatch section told found) h text = fault_read bytes (card.CountMismatch section told found) (h text)
+card_refused bytes card.NotFixed h text = h text
+card_refused bytes (card.ShortLine line) h text = h text
+card_refused bytes (card.LongLine line) h text = h text
+card_refused bytes (card.BadSection line) h text = h text
+card_refused bytes (card.BadSequence line) h text = h text
+card_refused bytes card.NoTerminate h text = h text
+card_refused bytes card.BadTerminate h text = h text
+card_refused bytes (card.CountMismatch section told found) h text = h text
 
 pub global_refused : (bytes : List ℕ) (cs : Cards) (f : GlobalFault) → IsFixedForm bytes cs → IsFaultOf cs.global f → IsOfText (of_global f) → Refused bytes (of_global f)
 global_refused bytes cs (global.Memory e) form h text = absurd text
@@ -48,11 +46,11 @@ global_refused bytes cs (global.BadGlobal index) form h text = record { cards = 
 pub directory_refused : (bytes : List ℕ) (cs : Cards) (g : GlobalText) (f : DirFault) → IsFixedForm bytes cs → IsGlobal cs.global g
     → (directories.IsOfText f → IsDirectoryFault (length cs.params) cs.directory f) → IsOfText (of_directory f) → Refused bytes (of_directory f)
 directory_refused bytes cs g (directory.Memory e) form whole h text = absurd text
-directory_refused bytes cs g directory.OddLines form whole h text = record { cards = cs; text = g; form = form; globals = whole; first = fault_again (length cs.params) cs.directory directory.OddLines (h text) }
-directory_refused bytes cs g directory.TooManyEntities form whole h text = record { cards = cs; text = g; form = form; globals = whole; first = fault_again (length cs.params) cs.directory directory.TooManyEntities (h text) }
-directory_refused bytes cs g (directory.BadField entity field) form whole h text = record { cards = cs; text = g; form = form; globals = whole; first = fault_again (length cs.params) cs.directory (directory.BadField entity field) (h text) }
-directory_refused bytes cs g (directory.TypeDiffers entity) form whole h text = record { cards = cs; text = g; form = form; globals = whole; first = fault_again (length cs.params) cs.directory (directory.TypeDiffers entity) (h text) }
-directory_refused bytes cs g (directory.TooMuchText entity) form whole h text = record { cards = cs; text = g; form = form; globals = whole; first = fault_again (length cs.params) cs.directory (directory.TooMuchText entity) (h text) }
+directory_refused bytes cs g directory.OddLines form whole h text = record { cards = cs; text = g; form = form; globals = whole; first = h text }
+directory_refused bytes cs g directory.TooManyEntities form whole h text = record { cards = cs; text = g; form = form; globals = whole; first = h text }
+directory_refused bytes cs g (directory.BadField entity field) form whole h text = record { cards = cs; text = g; form = form; globals = whole; first = h text }
+directory_refused bytes cs g (directory.TypeDiffers entity) form whole h text = record { cards = cs; text = g; form = form; globals = whole; first = h text }
+directory_refused bytes cs g (directory.TooMuchText entity) form whole h text = record { cards = cs; text = g; form = form; globals = whole; first = h text }
 
 pub rows_refused : (bytes : List ℕ) (cs : Cards) (g : GlobalText) (ps : List Pair) (f : FileFault) → IsFixedForm bytes cs → IsGlobal cs.global g → IsDirectory (length cs.params) cs.directory ps
     → IsRowsFault g.comma g.semi cs.params ps f → IsOfText f → Refused bytes f

@@ -10,6 +10,7 @@ use Rattle.iges_cards.specs.Grammar.{IsFixedForm}
 use Rattle.iges_cards.specs.Reading.{cards_in}
 use Rattle.iges_cards.proofs.AgainLaws.{cards_again}
 use Rattle.iges_cards.proofs.TakesLaws.{cards_take}
+use Rattle.iges_cards.proofs.FirstFaultLaws.{fault_found, fault_read}
 use Rattle.iges_directory.specs.declared.globals.GlobalText.{GlobalText}
 use Rattle.iges_directory.specs.declared.global_faults.GlobalFault.{GlobalFault}
 use Rattle.iges_directory.specs.declared.global_faults.GlobalFault.TheVariants as global
@@ -19,6 +20,7 @@ use Rattle.iges_directory.specs.Global.{IsGlobal, IsFirstFault}
 use Rattle.iges_directory.specs.Pairs.{IsDirectory}
 use Rattle.iges_directory.specs.DirectoryReading.{directory_in}
 use Rattle.iges_directory.proofs.GlobalLaws.{global_once, one_fault, global_no_fault, global_or_fault}
+use Rattle.iges_directory.proofs.FirstFaultLaws.{fault_again, fault_takes}
 use Rattle.iges_directory.proofs.DirectoryForms.{directory_again, directory_takes}
 use Rattle.iges_parameters.specs.declared.faults.RowFault.{RowFault}
 use Rattle.solid_base.specs.Graph.{AreSound}
@@ -164,11 +166,11 @@ reads_is bytes model end h =
 
 refused_is : (bytes : List ℕ) (f : FileFault) → Refused bytes f → outcome bytes ≡ Err f
 refused_is bytes (fault.Memory e) h = absurd h
-refused_is bytes (fault.Card f) h = ap after_cards h
+refused_is bytes (fault.Card f) h = ap after_cards (fault_read bytes f h)
 refused_is bytes (fault.Global f) h =
     form_known bytes h.cards h.form ∙ fault_known h.cards h.index h.first (global_or_fault h.cards.global) ∙ ap (λ (k : GlobalFault). Err (fault.Global k)) (sym h.is)
 refused_is bytes (fault.Directory f) h =
-    form_known bytes h.cards h.form ∙ global_known h.cards h.text h.globals (global_or_fault h.cards.global) ∙ ap (after_directory h.cards h.text) h.first
+    form_known bytes h.cards h.form ∙ global_known h.cards h.text h.globals (global_or_fault h.cards.global) ∙ ap (after_directory h.cards h.text) (fault_again (length h.cards.params) h.cards.directory f h.first)
 refused_is bytes (fault.BadRow entity f) h =
     let b = h.first in
     let found = bad_again h.text.comma h.text.semi h.cards.params 0 b.front b.rest b.entities b.pair f b.good b.bad in
@@ -209,7 +211,7 @@ rows_hold bytes cards g pairs form whole all (Ok rows) h = go (nat_lt most_lines
 
 directory_holds : (bytes : List ℕ) (cards : Cards) (g : GlobalText) → IsFixedForm bytes cards → IsGlobal cards.global g
     → (r : Result (List Pair) DirFault) → directory_in (length cards.params) cards.directory ≡ r → Holds bytes (after_directory cards g r)
-directory_holds bytes cards g form whole (Err f) is = record { cards = cards; text = g; form = form; globals = whole; first = is }
+directory_holds bytes cards g form whole (Err f) is = record { cards = cards; text = g; form = form; globals = whole; first = fault_takes (length cards.params) cards.directory f is }
 directory_holds bytes cards g form whole (Ok pairs) is =
     rows_hold bytes cards g pairs form whole (directory_takes (length cards.params) cards.directory pairs is) (rows_in g.comma g.semi cards.params 0 pairs) (rows_say g.comma g.semi cards.params [] pairs [] tt)
 
@@ -220,7 +222,7 @@ global_holds bytes cards form (inr n) = record { cards = cards; index = n.0; for
 outcome_holds : (bytes : List ℕ) → Holds bytes (outcome bytes)
 outcome_holds bytes = go (cards_in bytes) refl where
   go : (r : Result Cards CardFault) → cards_in bytes ≡ r → Holds bytes (after_cards r)
-  go (Err f) is = is
+  go (Err f) is = fault_found bytes f is
   go (Ok cards) is = global_holds bytes cards (cards_take bytes cards is) (global_or_fault cards.global)
 
 -- ---- the law

@@ -1,10 +1,10 @@
 -- A whole file: the model that it is read as, or its first fault.
-use Rattle.std.specs.Prelude.{◌≡◌, ℕ, ◌<◌, ◌≤◌, List, length, Err}
+use Rattle.std.specs.Prelude.{◌≡◌, ℕ, ◌<◌, ◌≤◌, List, length}
 use Rattle.solid_base.specs.declared.entities.Model.{Model}
 use Rattle.solid_base.specs.declared.entities.Entity.{Entity}
 use Rattle.iges_cards.specs.declared.reader.Cards.{Cards}
 use Rattle.iges_cards.specs.Grammar.{IsFixedForm}
-use Rattle.iges_cards.specs.Reading.{cards_in}
+use Rattle.iges_cards.specs.FirstFault.{IsCardFault}
 use Rattle.iges_directory.specs.declared.globals.GlobalText.{GlobalText}
 use Rattle.iges_directory.specs.declared.global_faults.GlobalFault.{GlobalFault}
 use Rattle.iges_directory.specs.declared.global_faults.GlobalFault.TheVariants as global
@@ -12,7 +12,7 @@ use Rattle.iges_directory.specs.declared.directory_faults.DirFault.{DirFault}
 use Rattle.iges_directory.specs.declared.pairs.Pair.{Pair}
 use Rattle.iges_directory.specs.Global.{IsGlobal, IsFirstFault}
 use Rattle.iges_directory.specs.Pairs.{IsDirectory}
-use Rattle.iges_directory.specs.DirectoryReading.{directory_in}
+use Rattle.iges_directory.specs.FirstFaults.{IsDirectoryFault}
 use Rattle.iges_parameters.specs.declared.faults.RowFault.{RowFault}
 use Rattle.entity_graph.specs.declared.graph_faults.GraphFault.{GraphFault}
 use Rattle.entity_graph.specs.FirstFaults.{IsFault}
@@ -55,7 +55,7 @@ pub record HasDirectoryFault (bytes : List ℕ) (f : DirFault) : Type 0 where
   pub text : GlobalText
   pub form : IsFixedForm bytes cards
   pub globals : IsGlobal cards.global text
-  pub first : directory_in (length cards.params) cards.directory ≡ Err f
+  pub first : IsDirectoryFault (length cards.params) cards.directory f
 
 -- the directory is whole, and the record of this entity is the first that has a fault
 pub record HasBadRow (bytes : List ℕ) (entity : ℕ) (f : RowFault) : Type 0 where
@@ -95,7 +95,7 @@ pub record HasGraphFault (bytes : List ℕ) (f : GraphFault) : Type 0 where
 -- the bytes have this first fault. Out of memory is none of theirs
 abbrev pub Refused : List ℕ → FileFault → Type 0
 Refused bytes (fault.Memory e) = ⊥
-Refused bytes (fault.Card f) = cards_in bytes ≡ Err f
+Refused bytes (fault.Card f) = IsCardFault bytes f
 Refused bytes (fault.Global f) = HasGlobalFault bytes f
 Refused bytes (fault.Directory f) = HasDirectoryFault bytes f
 Refused bytes (fault.BadRow entity f) = HasBadRow bytes entity f
