@@ -1,5 +1,6 @@
 pub mod ReadRows
 pub mod JoinedLines
+mod BadEntries
 pub mod RowLoops
 pub mod Blanks
 pub mod FormFacts

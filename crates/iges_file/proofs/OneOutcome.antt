@@ -33,6 +33,7 @@ use Rattle.iges_file.specs.declared.faults.FileFault.TheVariants as fault
 use Rattle.iges_parameters.specs.Accepted.{lines_of, most_lines}
 use Rattle.iges_file.specs.Entities.{entity_in, AreEntities, IsBadRow}
 use Rattle.iges_file.specs.Files.{global_of, Reads, Refused}
+use Rattle.iges_file.proofs.BadEntries.{bad_entry_found, bad_entry_read}
 use Rattle.iges_file.proofs.RowLoops.{entities_pushed}
 
 -- a model and where the file ends, or a fault
@@ -92,7 +93,7 @@ rows_say comma semi params front (p ∷ pairs) es good =
       go : (r : Result Entity RowFault) → entity_in comma semi params p ≡ r → (o : Result (List Entity) (ℕ × RowFault)) → rows_in comma semi params (length front + 1) pairs ≡ o
           → ((e : Entity) → entity_in comma semi params p ≡ Ok e → RowsSay comma semi params (front ++ p ∷ []) pairs (es ++ e ∷ []) (rows_in comma semi params (length (front ++ p ∷ [])) pairs))
           → RowsSay comma semi params front (p ∷ pairs) es (with_others r (length front) o)
-      go (Err f) is o there more = record { front = front; entities = es; pair = p; rest = pairs; good = good; bad = is; cut = refl; number = refl }
+      go (Err f) is o there more = record { front = front; entities = es; pair = p; rest = pairs; good = good; bad = bad_entry_found comma semi params p f is; cut = refl; number = refl }
       go (Ok e) is o there more = after e o (subst (RowsSay comma semi params (front ++ p ∷ []) pairs (es ++ e ∷ [])) (ap (λ (n : ℕ). rows_in comma semi params n pairs) count ∙ there) (more e is))
 
 -- ---- the outcome, part by part
@@ -173,7 +174,7 @@ refused_is bytes (fault.Directory f) h =
     form_known bytes h.cards h.form ∙ global_known h.cards h.text h.globals (global_or_fault h.cards.global) ∙ ap (after_directory h.cards h.text) (fault_again (length h.cards.params) h.cards.directory f h.first)
 refused_is bytes (fault.BadRow entity f) h =
     let b = h.first in
-    let found = bad_again h.text.comma h.text.semi h.cards.params 0 b.front b.rest b.entities b.pair f b.good b.bad in
+    let found = bad_again h.text.comma h.text.semi h.cards.params 0 b.front b.rest b.entities b.pair f b.good (bad_entry_read h.text.comma h.text.semi h.cards.params b.pair f b.bad) in
     let place : 2 * (0 + length b.front) + 1 ≡ entity = omega (arith, b.number) in
     directory_known bytes h.cards h.text h.pairs h.form h.globals h.directory
     ∙ ap (λ (ps : List Pair). after_rows h.cards h.text (rows_in h.text.comma h.text.semi h.cards.params 0 ps)) b.cut

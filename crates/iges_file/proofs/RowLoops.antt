@@ -6,6 +6,7 @@ use Rattle.iges_parameters.specs.declared.faults.RowFault.{RowFault}
 use Rattle.iges_parameters.specs.declared.faults.RowFault.TheVariants as row
 use Rattle.iges_parameters.specs.Faults.{IsOfText}
 use Rattle.iges_file.specs.Faults.{of_row}
+use Rattle.iges_file.proofs.BadEntries.{bad_entry_found}
 use Rattle.iges_file.specs.Entities.{entity_in, AreEntities, IsBadRow, IsRowsFault}
 
 -- an entity more
@@ -19,7 +20,7 @@ entities_pushed comma semi params (p ∷ pairs) (f ∷ es) pair e all one = (all
 -- the first record that has a fault
 blamed : (comma semi : ℕ) (params : List (List ℕ)) (front rest : List Pair) (es : List Entity) (pair : Pair) (number : ℕ) (f : RowFault) → AreEntities comma semi params front es
     → number ≡ 2 * length front + 1 → entity_in comma semi params pair ≡ Err f → IsBadRow comma semi params (front ++ pair ∷ rest) number f
-blamed comma semi params front rest es pair number f good is bad = record { front = front; entities = es; pair = pair; rest = rest; good = good; bad = bad; cut = refl; number = is }
+blamed comma semi params front rest es pair number f good is bad = record { front = front; entities = es; pair = pair; rest = rest; good = good; bad = bad_entry_found comma semi params pair f bad; cut = refl; number = is }
 
 pub row_blamed : (comma semi : ℕ) (params : List (List ℕ)) (front rest : List Pair) (es : List Entity) (pair : Pair) (number : ℕ) (f : RowFault) → AreEntities comma semi params front es
     → number ≡ 2 * length front + 1 → (IsOfText f → entity_in comma semi params pair ≡ Err f) → IsRowsFault comma semi params (front ++ pair ∷ rest) (of_row number f)

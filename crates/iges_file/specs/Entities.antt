@@ -1,5 +1,5 @@
 -- The entities of a file: what a directory entry and its parameter lines give (IGES 5.3, 2.2.4.4 (directory entry section) and 2.2.4.5 (parameter data section)).
-use Rattle.std.specs.Prelude.{◌≡◌, ◌≢◌, ℕ, ◌+◌, ◌-◌, ◌*◌, ◌≤◌, List, [], ◌∷◌, ◌++◌, cond, ◌==◌, length, take, drop, Result, Ok, Err}
+use Rattle.std.specs.Prelude.{◌≡◌, ◌≢◌, ℕ, ◌+◌, ◌-◌, ◌*◌, ◌≤◌, List, [], ◌∷◌, ◌++◌, true, cond, ◌==◌, length, take, drop, Result, Ok, Err}
 use Rattle.std.specs.List.{concat}
 use Rattle.solid_base.specs.Spelling.{before_blanks}
 use Rattle.solid_base.specs.declared.entities.Entity.{Entity}
@@ -11,6 +11,7 @@ use Rattle.iges_parameters.specs.declared.faults.RowFault.{RowFault}
 use Rattle.iges_parameters.specs.RecordFields.{fields_of}
 use Rattle.iges_parameters.specs.Tables.{is_read}
 use Rattle.iges_parameters.specs.Records.{record_of}
+use Rattle.iges_parameters.specs.RecordFaults.{IsRecordFault}
 use Rattle.iges_file.specs.declared.faults.FileFault.{FileFault}
 use Rattle.iges_file.specs.declared.faults.FileFault.TheVariants as fault
 
@@ -57,14 +58,23 @@ AreEntities comma semi params [] (e ∷ es) = ⊥
 AreEntities comma semi params (pair ∷ pairs) [] = ⊥
 AreEntities comma semi params (pair ∷ pairs) (e ∷ es) = (entity_in comma semi params pair ≡ Ok e) × AreEntities comma semi params pairs es
 
--- the first entry whose record has a fault, and the fault. An entity's number is the odd number of its place
+-- the record of an entry has this first fault: the entry isn't null, its type and form are read, and
+-- the fields of its text have the fault
+pub record IsBadEntry (comma semi : ℕ) (params : List (List ℕ)) (pair : Pair) (f : RowFault)
+    : Type 0 where
+  pub not_null : pair.kind ≢ 0
+  pub read : is_read pair.kind pair.form ≡ true
+  pub first : IsRecordFault pair.kind pair.form (fields_of comma semi (text_of params pair)) f
+
+-- the first entry whose record has a fault, and the fault. An entity's number is the odd number of
+-- its place
 pub record IsBadRow (comma semi : ℕ) (params : List (List ℕ)) (pairs : List Pair) (entity : ℕ) (f : RowFault) : Type 0 where
   pub front : List Pair
   pub entities : List Entity
   pub pair : Pair
   pub rest : List Pair
   pub good : AreEntities comma semi params front entities
-  pub bad : entity_in comma semi params pair ≡ Err f
+  pub bad : IsBadEntry comma semi params pair f
   pub cut : pairs ≡ front ++ pair ∷ rest
   pub number : entity ≡ 2 * length front + 1
 
