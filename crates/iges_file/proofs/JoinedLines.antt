@@ -23,6 +23,10 @@ join_next text line lines at end total less is so_far =
     ap (λ (n : ℕ). take n (drop at lines)) count ∙ ap (λ (ls : List (List ℕ)). take (suc (end - (at + 1))) ls) (line_at lines at line is) ∙ ap (λ (n : ℕ). line ∷ take (end - (at + 1)) (drop n lines)) next in
     append_assoc text line (concat (take (end - (at + 1)) (drop (at + 1) lines))) ∙ ap (λ (ls : List (List ℕ)). text ++ concat ls) (sym cut) ∙ so_far
 
+-- one line alone
+pub join_one : (lines : List (List ℕ)) (at : ℕ) (line : List ℕ) → slice_get lines at ≡ Some line → line ≡ concat (take 1 (drop at lines))
+join_one lines at line is = sym (ap (λ (ls : List (List ℕ)). concat (take 1 ls)) (line_at lines at line is) ∙ append-nil line)
+
 -- no line is left
 pub join_done : (text : List ℕ) (lines : List (List ℕ)) (at end : ℕ) (total : List ℕ) → end ≤ at → text ++ concat (take (end - at) (drop at lines)) ≡ total → text ≡ total
 join_done text lines at end total done so_far =

@@ -1,4 +1,4 @@
-ghost use Rattle.std.specs.Prelude.{◌≡◌, ◌≢◌, ◌≤◌, ◌+◌, ◌-◌, ◌*◌, ◌^◌, length, take, drop, Ok, Err, IfOk, IfErr, true};
+ghost use Rattle.std.specs.Prelude.{◌≡◌, ◌≢◌, ◌<◌, ◌≤◌, ◌+◌, ◌-◌, ◌*◌, ◌^◌, length, take, drop, Ok, Err, IfOk, IfErr, OnOk, true};
 ghost use Rattle.std.specs.List.{concat};
 ghost use Rattle.solid_base.specs.Texts.{IsOneLine};
 ghost use Rattle.iges_cards.specs.Kept.{AreWide, NoneHasFeed};
@@ -7,56 +7,49 @@ ghost use Rattle.iges_directory.specs.Kept.{IsKept};
 ghost use Rattle.iges_parameters.specs.Faults.{IsOfText};
 ghost use Rattle.iges_parameters.specs.Tables.{is_read};
 ghost use Rattle.iges_parameters.specs.Accepted.{IsAcceptedEntity};
-ghost use Rattle.iges_file.specs.Entities.{text_of, kept_entity, known_entity, entity_with, entity_in, HasLines};
+ghost use Rattle.iges_file.specs.Entities.{kept_entity, known_entity, entity_with, entity_in, HasLines};
 
 use iges_directory::Pair;
-use iges_parameters::{RECORD_COLUMNS, RowFault, is_read, read_known_row};
-use solid_base::{BorrowedLines, Bytes, Entity, Row, RowText, Tokens, without_blanks_after};
+use iges_parameters::{RecordText, RowFault, is_read, read_known_row};
+use solid_base::{BorrowedLines, Bytes, Entity, Row, Tokens, before_blanks};
 use std::alloc::{AllocError, Global};
 
-/// So many lines of 64 columns from a place on, joined.
-fn joined(
-    alloc: Global,
-    lines: &BorrowedLines,
-    first: u32,
-    count: u32,
-) -> Result<Vec<u8>, AllocError>
+/// Joins so many lines from a place on into a text, in place of what it held.
+fn join(text: &mut Vec<u8>, lines: &BorrowedLines, first: u32, count: u32) -> Result<(), AllocError>
     requires lines { first + count ≤ length lines.now }
     requires few { count ≤ 500000 }
-    ensures { IfOk result (λ text. text.items ≡ concat (take count (drop first lines.now))) }
+    ensures { OnOk result (text.new.items ≡ concat (take count (drop first lines.now))) }
 {
-    let mut text = Vec::with_capacity(alloc, count as usize * RECORD_COLUMNS)?;
+    text.clear();
     for at in first as usize..first as usize + count as usize {
         text.extend_from_slice(lines.get(at))?;
     }
-    Ok(text)
+    Ok(())
 }
 
-/// The record of an entry: its parameter lines, joined.
-fn record(alloc: Global, params: &BorrowedLines, pair: &Pair) -> Result<Vec<u8>, AllocError>
-    requires first { 1 ≤ pair.now.first }
-    requires lines { pair.now.first - 1 + pair.now.count ≤ length params.now }
-    requires few { pair.now.count ≤ 500000 }
-    ensures { IfOk result (λ text. text.items ≡ text_of params.now pair.now) }
+/// The one line at a place, which is the record of an entry with one parameter line.
+fn only_line<'a>(lines: &BorrowedLines<'a>, first: u32) -> &'a [u8]
+    requires { first < length lines.now }
+    ensures { result.now ≡ concat (take 1 (drop first lines.now)) }
 {
-    joined(alloc, params, pair.first - 1, pair.count)
+    lines.get(first as usize)
 }
 
 /// An entity that isn't read keeps its record without the blanks after it.
-fn kept_entity(alloc: Global, pair: Pair, text: Vec<u8>) -> Entity
-    ensures { result ≡ kept_entity pair text.items }
+fn kept_entity(alloc: Global, pair: Pair, text: &[u8]) -> Result<Entity, AllocError>
+    ensures { IfOk result (λ entity. entity ≡ kept_entity pair text.now) }
 {
     let row = Row::Opaque {
         kind: pair.kind,
         form: pair.form,
         matrix: pair.matrix,
-        text: without_blanks_after(text),
+        text: Bytes::from_vec(Vec::from_slice(alloc, before_blanks(text))?),
     };
-    Entity {
+    Ok(Entity {
         row,
         attrs: pair.attrs,
         tail: Tokens::new(alloc),
-    }
+    })
 }
 
 /// The entity of an entry of a type and form that are read, whose record has this text.
@@ -65,24 +58,24 @@ fn read_known_entity(
     comma: u8,
     semi: u8,
     pair: Pair,
-    text: Vec<u8>,
+    text: &[u8],
 ) -> Result<Entity, RowFault>
     requires known { is_read pair.kind pair.form ≡ true }
     requires entry { IsKept pair }
-    requires in_line { IsOneLine text.items }
-    requires short { length text.items ≤ 2 ^ 25 }
+    requires in_line { IsOneLine text.now }
+    requires short { length text.now ≤ 2 ^ 25 }
     requires delimiters { AreDelimiters comma semi }
-    ensures found { IfOk result (λ entity. known_entity comma semi pair text.items ≡ Ok entity) }
-    ensures first_fault { IfErr result (λ fault. IsOfText fault → known_entity comma semi pair text.items ≡ Err fault) }
+    ensures found { IfOk result (λ entity. known_entity comma semi pair text.now ≡ Ok entity) }
+    ensures first_fault { IfErr result (λ fault. IsOfText fault → known_entity comma semi pair text.now ≡ Err fault) }
     ensures accepted { IfOk result IsAcceptedEntity }
 {
-    let source = RowText {
+    let record = RecordText {
         kind: pair.kind,
         form: pair.form,
         matrix: pair.matrix,
-        text: Bytes::from_vec(text),
+        text,
     };
-    let (row, tail) = read_known_row(alloc, &source, comma, semi)?;
+    let (row, tail) = read_known_row(alloc, &record, comma, semi)?;
     Ok(Entity {
         row,
         attrs: pair.attrs,
@@ -97,28 +90,30 @@ fn entity_with(
     comma: u8,
     semi: u8,
     pair: Pair,
-    text: Vec<u8>,
+    text: &[u8],
 ) -> Result<Entity, RowFault>
     requires entry { IsKept pair }
     requires kind { 1 ≤ pair.kind }
-    requires in_line { IsOneLine text.items }
-    requires short { length text.items ≤ 2 ^ 25 }
+    requires in_line { IsOneLine text.now }
+    requires short { length text.now ≤ 2 ^ 25 }
     requires delimiters { AreDelimiters comma semi }
-    ensures found { IfOk result (λ entity. entity_with comma semi pair text.items ≡ Ok entity) }
-    ensures first_fault { IfErr result (λ fault. IsOfText fault → entity_with comma semi pair text.items ≡ Err fault) }
+    ensures found { IfOk result (λ entity. entity_with comma semi pair text.now ≡ Ok entity) }
+    ensures first_fault { IfErr result (λ fault. IsOfText fault → entity_with comma semi pair text.now ≡ Err fault) }
     ensures accepted { IfOk result IsAcceptedEntity }
 {
     if is_read(pair.kind, pair.form) {
         read_known_entity(alloc, comma, semi, pair, text)
     } else {
-        Ok(kept_entity(alloc, pair, text))
+        Ok(kept_entity(alloc, pair, text)?)
     }
 }
 
-/// The entity of an entry in a file with these parameter lines.
+/// The entity of an entry in a file with these parameter lines. A record of several lines is joined in
+/// the buffer; that of one line stands in the file.
 #[tactic(auto, unfolding(crate::specs::Entities::entity_in))]
 pub fn read_entity(
     alloc: Global,
+    buffer: &mut Vec<u8>,
     comma: u8,
     semi: u8,
     params: &BorrowedLines,
@@ -140,6 +135,10 @@ pub fn read_entity(
             tail: Tokens::new(alloc),
         });
     }
-    let text = record(alloc, params, &pair)?;
-    entity_with(alloc, comma, semi, pair, text)
+    if pair.count == 1 {
+        let line = only_line(params, pair.first - 1);
+        return entity_with(alloc, comma, semi, pair, line);
+    }
+    join(buffer, params, pair.first - 1, pair.count)?;
+    entity_with(alloc, comma, semi, pair, buffer.as_slice())
 }

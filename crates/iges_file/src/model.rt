@@ -43,7 +43,9 @@ pub fn read_file(alloc: Global, bytes: &[u8]) -> Result<ReadFile, FileFault>
     let cards = read_cards(alloc, bytes)?;
     let global = read_global(alloc, cards.global.as_slice())?;
     let pairs = read_directory(alloc, &cards.directory, cards.params.len() as u32)?;
+    drop(cards.directory);
     let rows = read_rows(alloc, global.comma, global.semi, &cards.params, pairs)?;
+    drop(cards.params);
     check_lines(&rows)?;
     let graph = Graph::check(alloc, &rows)?;
     let model = Model {

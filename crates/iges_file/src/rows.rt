@@ -59,9 +59,10 @@ pub fn read_rows(
     ensures outer { IfErr result IsOuter }
 {
     let mut rows = Vec::with_capacity(alloc, pairs.len())?;
+    let mut buffer = Vec::new(alloc);
     let mut number = 1;
     for pair in pairs {
-        match read_entity(alloc, comma, semi, params, pair) {
+        match read_entity(alloc, &mut buffer, comma, semi, params, pair) {
             Ok(entity) => push_entity(alloc, &mut rows, entity)?,
             Err(fault) => return Err(of_row(number, fault)),
         }

@@ -3,6 +3,7 @@ use Rattle.std.proofs.Common.{◌≡◌, inl, inr, ℕ, List, [], ◌∷◌, len
 use Rattle.solid_base.specs.declared.entities.Token.{Token}
 use Rattle.solid_base.specs.declared.entities.RowText.{RowText}
 use Rattle.solid_base.specs.declared.solids.Row.{Row}
+use Rattle.iges_parameters.specs.declared.reading.records.RecordText.{RecordText}
 use Rattle.iges_parameters.specs.declared.faults.RowFault.{RowFault}
 use Rattle.iges_parameters.specs.declared.faults.RowFault.TheVariants as fault
 use Rattle.solid_base.specs.Outcomes.{◌>>=◌}
@@ -10,7 +11,7 @@ use Rattle.iges_parameters.specs.RecordFields.{fields_of}
 use Rattle.iges_parameters.specs.Rules.{Place}
 use Rattle.iges_parameters.specs.Tables.{is_read, solid_types}
 use Rattle.iges_parameters.specs.Records.{tail_from, record_of, record_in}
-use Rattle.iges_parameters.specs.RecordFaults.{numbers_of, item_count, wanted_of, AreFaultless, IsFaultTogether, IsTailFault, IsRecordFault, IsRecordFaultIn, not_read, in_parameter, together, in_tail}
+use Rattle.iges_parameters.specs.RecordFaults.{numbers_of, item_count, wanted_of, AreFaultless, IsFaultTogether, IsTailFault, IsRecordFault, IsRecordFaultIn, IsBorrowedRecordFault, not_read, in_parameter, together, in_tail}
 use Rattle.iges_parameters.proofs.TreesBlamed.{bind_err}
 use Rattle.iges_parameters.proofs.FieldFaults.{fault_same, as_fault, no_fault}
 use Rattle.iges_parameters.proofs.FirstFaults.{outcome, bind_stops, bind_goes, run, Ready, fault_is_first, first_is_fault, IsThrough, goes_through, faultless_goes}
@@ -106,3 +107,6 @@ first_fault_unique kind form fields f g h k =
 
 pub record_fault_in : (comma semi : ℕ) (source : RowText) (f : RowFault) → record_in comma semi source ≡ Err f → IsRecordFaultIn comma semi source f
 record_fault_in comma semi source f h = fault_read_is_first source.kind source.form source.matrix (fields_of comma semi source.text) f h
+
+pub borrowed_record_fault : (comma semi : ℕ) (source : RecordText) (f : RowFault) → record_of source.kind source.form source.matrix (fields_of comma semi source.text.now) ≡ Err f → IsBorrowedRecordFault comma semi source f
+borrowed_record_fault comma semi source f h = fault_read_is_first source.kind source.form source.matrix (fields_of comma semi source.text.now) f h

@@ -18,6 +18,7 @@ use Rattle.decimal_scale.specs.declared.faults.RealFault.{RealFault}
 use Rattle.decimal_scale.specs.Reading.{reading_of}
 use Rattle.boolean_tree.specs.Faults.{LacksOperands, LeavesOthers}
 use Rattle.iges_parameters.specs.declared.faults.RowFault.{RowFault}
+use Rattle.iges_parameters.specs.declared.reading.records.RecordText.{RecordText}
 use Rattle.iges_parameters.specs.declared.faults.RowFault.TheVariants as fault
 use Rattle.iges_parameters.specs.declared.tables.Rule.{Rule}
 use Rattle.iges_parameters.specs.declared.tables.Values.{Values}
@@ -303,3 +304,8 @@ pub data IsRecordFault (kind form : ℕ) (fields : List (Option Token)) (f : Row
 abbrev pub IsRecordFaultIn : ℕ → ℕ → RowText → RowFault → Type 0
 IsRecordFaultIn comma semi source f =
     IsRecordFault source.kind source.form (fields_of comma semi source.text) f
+
+-- solidd's own: the same of a record that is read where it stands
+abbrev pub IsBorrowedRecordFault : ℕ → ℕ → RecordText → RowFault → Type 0
+IsBorrowedRecordFault comma semi source f =
+    IsRecordFault source.kind source.form (fields_of comma semi source.text.now) f

@@ -13,7 +13,7 @@ mod tables;
 mod writing;
 
 pub use faults::RowFault;
-pub use reading::records::{read_known_row, read_row};
+pub use reading::records::{RecordText, read_known_row, read_row};
 pub use tables::is_read;
 pub use writing::RECORD_COLUMNS;
 pub use writing::line_counts::{MOST_COUNTED_LINES, line_count, row_line_count};

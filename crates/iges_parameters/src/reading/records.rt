@@ -9,7 +9,8 @@ ghost use Rattle.iges_parameters.specs.Rules.{MovesUpTo};
 ghost use Rattle.iges_parameters.specs.Tables.{is_read};
 ghost use Rattle.iges_parameters.specs.Records.{tree_row, assembly_row, row_at, record_of};
 ghost use Rattle.iges_parameters.specs.Records.{record_in};
-ghost use Rattle.iges_parameters.specs.RecordFaults.{IsRecordFaultIn};
+ghost use Rattle.iges_parameters.specs.RecordFaults.{IsRecordFaultIn, IsBorrowedRecordFault};
+ghost use Rattle.iges_parameters.specs.RecordFields.{fields_of};
 
 use crate::faults::RowFault;
 use crate::reading::assemblies::assembly;
@@ -20,6 +21,16 @@ use crate::reading::trees::tree;
 use crate::tables::is_read;
 use solid_base::{Row, RowText, Tokens};
 use std::alloc::Global;
+
+/// The type, form and matrix of an entity that is to be read, and its record, which it borrows. The
+/// record is one line of at most 2^25 bytes.
+#[derive(Clone, Copy, Debug)]
+pub struct RecordText<'a> {
+    pub kind: u32,
+    pub form: u32,
+    pub matrix: u32,
+    pub text: &'a [u8],
+}
 
 /// The row of a Boolean tree.
 #[tactic(auto, unfolding(crate::specs::Records::tree_row))]
@@ -82,7 +93,7 @@ fn row_of(
 ///
 /// NotRead comes first, where `is_read` is false, and then what `read_known_row` answers. The
 /// delimiters are lawful and differ.
-#[tactic(auto, unfolding(crate::specs::Records::record_of))]
+#[tactic(auto, using(crate::proofs::RecordFaultsRead::record_fault_in), unfolding(crate::specs::Records::record_of))]
 pub fn read_row(
     alloc: Global,
     source: &RowText,
@@ -101,7 +112,13 @@ pub fn read_row(
     ensures one_line { IfOk result (λ read. IsOneLine source.now.text → AreOneLine read.1) }
 {
     if is_read(source.kind, source.form) {
-        read_known_row(alloc, source, comma, semi)
+        let record = RecordText {
+            kind: source.kind,
+            form: source.form,
+            matrix: source.matrix,
+            text: source.text.as_slice(),
+        };
+        read_known_row(alloc, &record, comma, semi)
     } else {
         Err(RowFault::NotRead)
     }
@@ -119,26 +136,29 @@ pub fn read_row(
 /// than two trees stand. After the last item comes BadPostfix 1, where other than one tree is left;
 /// after all parameters BadAxis and BadMatrix; last, Token of a field after the parameters. Memory
 /// comes when out of memory.
-#[tactic(auto, using(crate::proofs::RecordFaultsRead::record_fault_in), unfolding(crate::specs::Records::record_of))]
+#[tactic(auto, using(crate::proofs::RecordFaultsRead::borrowed_record_fault), unfolding(crate::specs::Records::record_of))]
 pub fn read_known_row(
     alloc: Global,
-    source: &RowText,
+    source: &RecordText,
     comma: u8,
     semi: u8,
 ) -> Result<(Row, Tokens), RowFault>
     requires known { is_read source.now.kind source.now.form ≡ true }
-    requires text { length source.now.text ≤ 2 ^ 25 }
+    requires text { length source.now.text.now ≤ 2 ^ 25 }
     requires delimiters { AreDelimiters comma semi }
-    ensures found { IfOk result (λ read. record_in comma semi source.now ≡ Ok (read.0, read.1)) }
+    ensures found { IfOk result (λ read.
+        record_of source.now.kind source.now.form source.now.matrix
+        (fields_of comma semi source.now.text.now) ≡ Ok (read.0, read.1)) }
     ensures first_fault { IfErr result (λ fault. IsOfText fault →
-        IsRecordFaultIn comma semi source.now fault) }
-    ensures as_read { IfErr result (λ fault. IsOfText fault → record_in comma semi source.now
-        ≡ Err fault) }
+        IsBorrowedRecordFault comma semi source.now fault) }
+    ensures as_read { IfErr result (λ fault. IsOfText fault →
+        record_of source.now.kind source.now.form source.now.matrix
+        (fields_of comma semi source.now.text.now) ≡ Err fault) }
     ensures lawful { IfOk result (λ read. IsLawfulRow read.0) }
     ensures spelt { IfOk result (λ read. AreSpelt read.1) }
-    ensures one_line { IfOk result (λ read. IsOneLine source.now.text → AreOneLine read.1) }
+    ensures one_line { IfOk result (λ read. IsOneLine source.now.text.now → AreOneLine read.1) }
 {
-    let mut parameters = Parameters::new(source.text.as_slice(), comma, semi);
+    let mut parameters = Parameters::new(source.text, comma, semi);
     read_type(source.kind, &mut parameters)?;
     let row = row_of(
         alloc,

@@ -9,7 +9,6 @@ use Rattle.iges_file.proofs.entities.read_known_entity.Goals as goal
 pub returns-clause-accepted : goal.returns-clause-accepted
 returns-clause-accepted c =
     let e = c.in_ok-row.ensures in
-    let found = rw c.from_vec.ensures at e.found in
     let x : Row × List Token = (c.in_ok-row.row, c.in_ok-row.tail) in
-    let is = read_row_is c.args.pair.kind c.args.pair.form c.args.pair.matrix (fields_of c.args.comma c.args.semi c.args.text.items) x found in
-    read_accepted c.args.pair x is e.lawful e.spelt (e.one_line (rw c.from_vec.ensures c.requires.in_line)) c.requires.entry
+    let is = read_row_is c.args.pair.kind c.args.pair.form c.args.pair.matrix (fields_of c.args.comma c.args.semi c.args.text.now) x e.found in
+    read_accepted c.args.pair x is e.lawful e.spelt (e.one_line c.requires.in_line) c.requires.entry

@@ -14,5 +14,5 @@ row_of-requires-clause-form c = matrix_form c.args.source.now.kind c.args.source
 pub returns-clause-one_line : goal.returns-clause-one_line
 unfolding record_of
 returns-clause-one_line c one =
-    let found : record_of c.args.source.now.kind c.args.source.now.form c.args.source.now.matrix (fields_of c.args.comma c.args.semi c.args.source.now.text) ≡ Ok (c.in_ok-row.row, c.in_ok-tail.tail) = search rules in
-    one_line_kept c.args.comma c.args.semi c.args.source.now.kind c.args.source.now.form c.args.source.now.matrix c.args.source.now.text c.in_ok-row.row c.in_ok-tail.tail one found
+    let found : record_of c.args.source.now.kind c.args.source.now.form c.args.source.now.matrix (fields_of c.args.comma c.args.semi c.args.source.now.text.now) ≡ Ok (c.in_ok-row.row, c.in_ok-tail.tail) = search rules in
+    one_line_kept c.args.comma c.args.semi c.args.source.now.kind c.args.source.now.form c.args.source.now.matrix c.args.source.now.text.now c.in_ok-row.row c.in_ok-tail.tail one found

@@ -1,6 +1,6 @@
 use Rattle.std.proofs.Common.{◌≡◌, ◌+◌, ◌-◌, ◌++◌, take, drop}
 use Rattle.std.specs.List.{concat}
-use Rattle.iges_file.proofs.entities.joined.Given as goal
+use Rattle.iges_file.proofs.entities.join.Given as goal
 
 abbrev pub invariant-loop-at : goal.invariant-loop-at
 invariant-loop-at l = record {

@@ -1,6 +1,6 @@
 use Rattle.std.proofs.Common.{◌≡◌, ◌<◌, ◌+◌, ◌++◌, rules, arith}
 use Rattle.iges_file.proofs.JoinedLines.{join_next}
-use Rattle.iges_file.proofs.entities.joined.Goals as goal
+use Rattle.iges_file.proofs.entities.join.Goals as goal
 
 pub loop-at-preserved : goal.loop-at-preserved
 loop-at-preserved c =
