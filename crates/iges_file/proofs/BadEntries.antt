@@ -32,7 +32,7 @@ failed_entry comma semi params pair f false true n r e = record {
   not_null = λ z. grind (arith, nat_tests);
   read = r;
   first = fault_read_is_first pair.kind pair.form pair.matrix (fields_of comma semi (text_of params pair)) f
-    (failed_record pair (record_of pair.kind pair.form pair.matrix (fields_of comma semi (text_of params pair))) f e);
+      (failed_record pair (record_of pair.kind pair.form pair.matrix (fields_of comma semi (text_of params pair))) f e);
 }
 
 pub bad_entry_found : (comma semi : ℕ) (params : List (List ℕ)) (pair : Pair) (f : RowFault)
