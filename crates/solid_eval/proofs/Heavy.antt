@@ -158,3 +158,13 @@ module _ (rows : List Entity) where
 
     pub row_weighs : (e : ℕ) (r : Row) → row_at rows e ≡ r → weight_of rows e ≡ row_weight (weight_of rows) r
     row_weighs e r is = (no_levels rows sound.shallow e).weight ∙ ap (row_weight (weight_of rows)) is
+
+    pub items_weigh : (e matrix : ℕ) (items : List Placed) → row_at rows e ≡ row.Assembly items matrix → AllByRecursion AtLeastOne (map target (items_of items))
+    unfolding references_of
+    items_weigh e matrix items is =
+        let m = matrix_named matrix in
+        let its = items_of items in
+        let ms = matrices_of items in
+        let p = subst (λ r. AllByRecursion IsPresent (references_of r)) is (sound.present e) in
+        let d = subst (λ r. AllByRecursion IsDirected (references_of r)) is (sound.directed e) in
+        items_heavy items (all_first IsPresent its ms (all_last IsPresent m (its ++ ms) p)) (all_first IsDirected its ms (all_last IsDirected m (its ++ ms) d)) (every Weighs weighs (map target its))

@@ -19,4 +19,6 @@ pub mod Settled
 pub mod InteriorFacts
 pub mod PartsUses
 pub mod PassedParts
+pub mod LevelsLeft
+pub mod NextParts
 pub mod StandardFacts

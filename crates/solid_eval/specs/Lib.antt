@@ -7,3 +7,5 @@ pub mod Causes
 pub mod Taking
 pub mod Interior
 pub mod Passing
+pub mod LevelStack
+pub mod Walking

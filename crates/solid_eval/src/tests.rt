@@ -5,9 +5,10 @@ ghost use Rattle.std.specs.Arc.{arc_value};
 ghost use Rattle.solid_base.specs.declared.solids.Row.TheVariants as row;
 ghost use Rattle.solid_base.specs.Graph.{weight_of};
 ghost use Rattle.solid_base.specs.Ranges.{IsLawfulRow};
-ghost use Rattle.solid_base.specs.References.{HasNumber};
+ghost use Rattle.solid_base.specs.References.{HasNumber, row_at};
 ghost use Rattle.entity_graph.specs.Opaque.{ReachesOpaque};
 ghost use Rattle.fixed_enclosure.specs.Spans.{IsEnc, IsBox};
+ghost use Rattle.solid_eval.specs.Solids.{IsSolidRow};
 
 use super::*;
 use boolean_tree::check_items;
@@ -267,6 +268,94 @@ fn verdicts_from_given_verdicts(rt: HostRuntime) -> Result<(), GraphFault> {
         let verdict = combine(&rows, &graph, e, leaves.as_slice(), &mut stack);
         assert_eq!(rt; verdict, want, "{e} from {leaves:?}");
         assert_eq!(rt; stack.as_slice(), [open].as_slice());
+    }
+    Ok(())
+}
+
+fn pair(alloc: Global, left: Placed, right: Placed, matrix: u32) -> Result<Arc<Entity>, AllocError>
+    requires left { (left.item ≤ 99) × (left.matrix ≤ 99) }
+    requires right { (right.item ≤ 99) × (right.matrix ≤ 99) }
+    ensures { IfOk result (λ e. IsLawfulRow (arc_value e).row) }
+{
+    let items = List::from_vec(vec![in alloc; left, right]?);
+    entity(alloc, Row::Assembly { items, matrix })
+}
+
+// An assembly and its instance stand in a tree, which stands in another tree.
+fn nested_rows(rt: &impl Abort, alloc: Global) -> Result<Rows, AllocError>
+    ensures { IfOk result (AllByRecursion (λ e. IsLawfulRow e.row)) }
+{
+    let turned = Placed { item: 1, matrix: 5 };
+    let moved = Placed { item: 7, matrix: 3 };
+    let again = Row::Instance {
+        child: 9,
+        matrix: 5,
+    };
+    Ok(Rows::from_vec(vec![in alloc;
+        ball(alloc, BALL, 0)?,
+        matrix(alloc, SLIDE)?,
+        matrix(alloc, TURN)?,
+        ball(alloc, SMALL_BALL, 3)?,
+        pair(alloc, turned, moved, 3)?,
+        entity(alloc, again)?,
+        difference(rt, alloc, 9, 11)?,
+        difference(rt, alloc, 13, 1)?,
+    ]?))
+}
+
+fn is_solid(rt: &impl Abort, rows: &Rows, e: u32)
+    ensures { IsSolidRow (row_at rows.now e) }
+{
+    match rows.row(e) {
+        Some(Row::Prim { .. } | Row::Tree { .. } | Row::Assembly { .. } | Row::Instance { .. }) =>
+            {}
+        _ => panic!(rt; "{e} is no solid"),
+    }
+}
+
+// A walk along an entity gives the uses at all places, one after the other.
+fn walk_is_by_places(
+    rt: &impl Abort,
+    alloc: Global,
+    rows: &Rows,
+    graph: &Graph,
+    e: u32,
+    at: &Box3,
+) -> Result<(), AllocError>
+    requires rows { AllByRecursion (λ e. IsLawfulRow e.row) rows.now }
+    requires graph { graph.now ≡ rows.now }
+    requires at { IsBox at.now }
+{
+    graph.obeys();
+    has_use(rt, rows, graph, e, 0);
+    is_solid(rt, rows, e);
+    let mut walk = Walk::new(alloc, e, at)?;
+    for k in 0..graph.weight(e) {
+        has_use(rt, rows, graph, e, k);
+        let found = leaf_at(rows, graph, e, at, k);
+        assert_eq!(rt; walk.next(rows), Some(found), "use {k} of {e}");
+    }
+    assert_eq!(rt; walk.next(rows), None, "after the last use of {e}");
+    assert_eq!(rt;
+        walk.next(rows),
+        None,
+        "once more after the last use of {e}"
+    );
+    Ok(())
+}
+
+#[test]
+fn walks_along_uses(rt: HostRuntime) -> Result<(), GraphFault> {
+    let rows = nested_rows(&rt, rt.alloc())?;
+    assert!(rt; rows.len() < 100);
+    let graph = Graph::check(rt.alloc(), &rows)?;
+    let at = place(&rt, (1, 2, 3));
+    // Number 9 is an assembly of two balls, number 11 its instance, number 13 the one less the
+    // other, and number 15 that less a ball.
+    for (e, weight) in [(1, 1), (7, 1), (9, 2), (11, 2), (13, 4), (15, 5)] {
+        has_use(&rt, &rows, &graph, e, 0);
+        assert_eq!(rt; graph.weight(e), weight, "the weight of {e}");
+        walk_is_by_places(&rt, rt.alloc(), &rows, &graph, e, &at)?;
     }
     Ok(())
 }

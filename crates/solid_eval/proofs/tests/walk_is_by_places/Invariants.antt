@@ -1,0 +1,5 @@
+use Rattle.solid_eval.specs.Walking.{IsWalk}
+use Rattle.solid_eval.proofs.tests.walk_is_by_places.Given as goal
+
+abbrev pub invariant-loop-k : goal.invariant-loop-k
+invariant-loop-k g l = IsWalk l.rows l.walk

@@ -1,0 +1,166 @@
+ghost use Rattle.std.specs.Prelude.{◌≡◌, ◌+◌, ◌≤◌, ℕ, List, [], ◌∷◌, ◌++◌, length};
+ghost use Rattle.std.specs.Prelude.{IfOk, MatchOption};
+ghost use Rattle.std.specs.List.{AllByRecursion};
+ghost use Rattle.solid_base.specs.declared.entities.Entity.{Entity};
+ghost use Rattle.solid_base.specs.Graph.{AreSound, depth_of, weight_of, most_levels};
+ghost use Rattle.solid_base.specs.Ranges.{IsLawfulRow};
+ghost use Rattle.solid_base.specs.References.{row_at};
+ghost use Rattle.fixed_enclosure.specs.Places.{spans_of};
+ghost use Rattle.fixed_enclosure.specs.Spans.{IsBox};
+ghost use Rattle.affine_pull.specs.Chains.{chain_of, spans_through};
+ghost use Rattle.entity_graph.specs.Opaque.{ReachesOpaque};
+ghost use Rattle.solid_eval.specs.Solids.{solid_of, IsSolidRow};
+ghost use Rattle.solid_eval.specs.Uses.{uses};
+ghost use Rattle.solid_eval.specs.Walking.{levels_uses, uses_left, IsStack, IsWalk, IsOpened};
+
+use crate::level_stack::{Level, Levels};
+use crate::parts::part_from;
+use affine_pull::pull_chain;
+use fixed_enclosure::Box3;
+use solid_base::{MOST_LEVELS, Row, Rows};
+use std::alloc::{AllocError, Global};
+
+/// A walk along the uses of the primitives of an entity over a box, in the order in which operands
+/// and items stand. It borrows no rows, so that it can be kept between calls: contracts see the
+/// uses that are left over rows. Room is set aside for the most levels that a model may have.
+#[derive(Debug, Drop)]
+pub struct Walk {
+    start: Option<(u32, Box3)>,
+    levels: Levels,
+}
+
+impl Walk {
+    /// A walk along all uses of an entity over a box, in steps. It is one of any lawful rows whose
+    /// references obey the rules, where the entity is a solid that reaches nothing unread.
+    /// AllocError when out of memory.
+    pub fn new(alloc: Global, e: u32, at: &Box3) -> Result<Walk, AllocError>
+        requires at { IsBox at.now }
+        ensures left { (rows : List Entity) →
+            IfOk result (λ w. uses_left rows w ≡ uses (solid_of rows e) (spans_of at.now)) }
+        ensures walk { (rows : List Entity) → AllByRecursion (λ e. IsLawfulRow e.row) rows →
+            AreSound rows → ((n : ℕ) → ¬ ReachesOpaque rows e n) → IsSolidRow (row_at rows e) →
+            IfOk result (IsWalk rows) }
+    {
+        let mut levels = Levels::new(alloc);
+        levels.reserve(MOST_LEVELS as usize)?;
+        Ok(Walk {
+            start: Some((e, *at)),
+            levels,
+        })
+    }
+
+    /// The first of the uses that are left: the primitive's number, and the box before its own
+    /// matrix, in steps; the others are left. None where no use is left, and then none is left
+    /// afterwards. No memory is taken.
+    pub fn next(&mut self, rows: &Rows) -> Option<(u32, Box3)>
+        requires rows { AllByRecursion (λ e. IsLawfulRow e.row) rows.now }
+        requires sound { AreSound rows.now }
+        requires walk { IsWalk rows.now self.old }
+        ensures first { MatchOption result
+            ((uses_left rows.now self.old ≡ []) × (uses_left rows.now self.new ≡ []))
+            (λ u. uses_left rows.now self.old ≡
+            record { number = u.0; spans = spans_of u.1 } ∷ uses_left rows.now self.new) }
+        ensures at { MatchOption result (Unit {0}) (λ u. IsBox u.1) }
+        ensures walk { IsWalk rows.now self.new }
+    {
+        match self.start.take() {
+            Some((e, at)) => Some(first_use(rows, e, &at, &mut self.levels)),
+            None => next_use(rows, &mut self.levels),
+        }
+    }
+}
+
+// The first use of an entity. Each tree, assembly and instance on the way down is pushed, with the
+// place after the part that is taken.
+fn first_use(rows: &Rows, e: u32, at: &Box3, levels: &mut Levels) -> (u32, Box3)
+    requires rows { AllByRecursion (λ e. IsLawfulRow e.row) rows.now }
+    requires sound { AreSound rows.now }
+    requires at { IsBox at.now }
+    requires read { (n : ℕ) → ¬ ReachesOpaque rows.now e n }
+    requires weighs { 1 ≤ weight_of rows.now e }
+    requires deep { depth_of rows.now e + length levels.old.list ≤ most_levels }
+    requires stack { IsStack rows.now levels.old }
+    ensures first { uses (solid_of rows.now e) (spans_of at.now) ++
+        levels_uses rows.now levels.old.list ≡
+        record { number = result.0; spans = spans_of result.1 } ∷
+        levels_uses rows.now levels.new.list }
+    ensures at { IsBox result.1 }
+    ensures stack { IsStack rows.now levels.new }
+{
+    let level = match level_of(rows, e, at) {
+        Some(level) => level,
+        None => return (e, *at),
+    };
+    match part_from(rows, &level) {
+        Some(part) => {
+            let after_first = Level {
+                index: part.next,
+                ..level
+            };
+            levels.push(after_first).unwrap();
+            first_use(rows, part.number, &part.at, levels)
+        }
+        None => (e, *at),
+    }
+}
+
+// The level of a tree, an assembly or an instance of which all uses are left. None for a primitive.
+fn level_of(rows: &Rows, e: u32, at: &Box3) -> Option<Level>
+    requires rows { AllByRecursion (λ e. IsLawfulRow e.row) rows.now }
+    requires sound { AreSound rows.now }
+    requires at { IsBox at.now }
+    requires read { (n : ℕ) → ¬ ReachesOpaque rows.now e n }
+    requires weighs { 1 ≤ weight_of rows.now e }
+    ensures { MatchOption result (uses (solid_of rows.now e) (spans_of at.now) ≡
+        record { number = e; spans = spans_of at.now } ∷ []) (IsOpened rows.now e at.now) }
+{
+    match rows.row(e) {
+        Some(Row::Tree { matrix, .. }) => Some(opened(rows, e, *matrix, at)),
+        Some(Row::Assembly { matrix, .. }) => Some(opened(rows, e, *matrix, at)),
+        Some(Row::Instance { matrix, .. }) => Some(opened(rows, e, *matrix, at)),
+        None | Some(Row::Null | Row::Opaque { .. } | Row::Matrix { .. } | Row::Prim { .. }) => None,
+    }
+}
+
+// A level before its first part, over a box carried back through a matrix.
+fn opened(rows: &Rows, e: u32, matrix: u32, at: &Box3) -> Level
+    requires rows { AllByRecursion (λ e. IsLawfulRow e.row) rows.now }
+    requires at { IsBox at.now }
+    ensures number { result.e ≡ e }
+    ensures index { result.index ≡ 0 }
+    ensures spans { spans_of result.at ≡
+        spans_through (chain_of rows.now matrix) (spans_of at.now) }
+    ensures at { IsBox result.at }
+{
+    Level {
+        e,
+        at: pull_chain(rows, matrix, at),
+        index: 0,
+    }
+}
+
+// The first use that is left on levels. A level on which none is left is taken off.
+fn next_use(rows: &Rows, levels: &mut Levels) -> Option<(u32, Box3)>
+    requires rows { AllByRecursion (λ e. IsLawfulRow e.row) rows.now }
+    requires sound { AreSound rows.now }
+    requires stack { IsStack rows.now levels.old }
+    ensures first { MatchOption result
+        ((levels_uses rows.now levels.old.list ≡ []) × (levels_uses rows.now levels.new.list ≡ []))
+        (λ u. levels_uses rows.now levels.old.list ≡
+        record { number = u.0; spans = spans_of u.1 } ∷
+        levels_uses rows.now levels.new.list) }
+    ensures at { MatchOption result (Unit {0}) (λ u. IsBox u.1) }
+    ensures stack { IsStack rows.now levels.new }
+{
+    while let Some(level) = levels.pop() {
+        if let Some(part) = part_from(rows, &level) {
+            let after_next = Level {
+                index: part.next,
+                ..level
+            };
+            levels.push(after_next).unwrap();
+            return Some(first_use(rows, part.number, &part.at, levels));
+        }
+    }
+    None
+}
