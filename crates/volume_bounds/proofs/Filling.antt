@@ -24,9 +24,12 @@ last_cut : (lo hi : ℤ) (depth : ℕ) → IsGridSide lo hi → depth ≤ most_d
 last_cut lo hi depth side h =
     let w = wide lo hi side in
     let s = shares_of_step depth h in
-    let width : unsigned_abs (hi -ℤ lo) ≡ (w.0 * (78125 * 2 ^ (7 - depth))) * parts_of depth = w.1 ∙ (ap (λ g. w.0 * g) s ∙ omega arith) in
-    let part : ((w.0 * (78125 * 2 ^ (7 - depth))) * parts_of depth) / parts_of depth ≡ w.0 * (78125 * 2 ^ (7 - depth)) = mul-div_left _ (pow_pos depth) in
-    let all : parts_of depth * (unsigned_abs (hi -ℤ lo) / parts_of depth) ≡ unsigned_abs (hi -ℤ lo) = rw width (ap (λ (n : ℕ). parts_of depth * n) part ∙ omega arith) in
+    let width : unsigned_abs (hi -ℤ lo) ≡ (w.0 * (78125 * 2 ^ (7 - depth))) * parts_of depth =
+    w.1 ∙ (ap (λ g. w.0 * g) s ∙ omega arith) in
+    let part : ((w.0 * (78125 * 2 ^ (7 - depth))) * parts_of depth) / parts_of depth
+    ≡ w.0 * (78125 * 2 ^ (7 - depth)) = mul-div_left _ (pow_pos depth) in
+    let all : parts_of depth * (unsigned_abs (hi -ℤ lo) / parts_of depth) ≡ unsigned_abs (hi -ℤ lo) =
+    rw width (ap (λ (n : ℕ). parts_of depth * n) part ∙ omega arith) in
     let is = width_is lo hi (omega (arith, ints, side.order)) in
     rw all (omega (arith, ints, is))
 

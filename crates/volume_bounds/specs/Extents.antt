@@ -30,7 +30,8 @@ Covers verdicts cube parts found =
 
 -- solidd's own: the extents of what isn't outside: the least cube in which each cell lies that
 -- isn't outside. Its faces are faces of such cells, so it is made of whole cells
-pub record IsExtent (verdicts : List Verdict) (cube : Cube) (parts : ℕ) (found : Cube) : Type 0 where
+pub record IsExtent (verdicts : List Verdict) (cube : Cube) (parts : ℕ) (found : Cube)
+    : Type 0 where
   pub some : (place : ℕ) × IsSeen verdicts place
   pub covers : Covers verdicts cube parts found
   pub least : (other : Cube) → Covers verdicts cube parts other → IsCubeIn found other

@@ -3,8 +3,8 @@ ghost use Rattle.std.specs.Prelude.{List};
 ghost use Rattle.solid_base.specs.declared.geometry.Cube.{Cube};
 ghost use Rattle.solid_base.specs.declared.classes.Verdict.{Verdict};
 ghost use Rattle.volume_bounds.specs.declared.cells.Cell.{Cell};
-ghost use Rattle.volume_bounds.specs.Cells.{parts_of, most_depth, cell_of, place_of, corner, IsCell};
-ghost use Rattle.volume_bounds.specs.Cells.{IsGridCube};
+ghost use Rattle.volume_bounds.specs.Cells.{parts_of, most_depth, cell_of, place_of, corner};
+ghost use Rattle.volume_bounds.specs.Cells.{IsCell, IsGridCube};
 ghost use Rattle.volume_bounds.specs.Extents.{IsExtent};
 
 /// Each cell of a grid stands once in the order of cells, and each place is that of a cell.

@@ -19,31 +19,40 @@ loop-place-preserved c =
           let is = rw list at w.in-Mixed.is in
           let seen = seen_at _ _ _ inside (not_outside _ is) in
           let cell = rw parts at w.cell_at.ensures.cell in
-          rw (w.found-is, w.with_one.ensures, cell) (found_more (parts_of c.args.depth) _ _ c.loop-place.found seen c.loop-place.invariant)
+          rw (w.found-is, w.with_one.ensures, cell)
+          (found_more (parts_of c.args.depth) _ _ c.loop-place.found seen c.loop-place.invariant)
     ]
 
 pub returns-in_err-block : goal.returns-in_err-block
 returns-in_err-block c =
-    let long : length c.args.verdicts.now.list ≤ c.loop-place.place = rw c.as_slice-verdict-items.ensures at c.loop-place-test.false in
-    let none = found_none (parts_of c.args.depth) c.args.verdicts.now.list c.loop-place.place c.loop-place.found long c.in_err-block.was c.loop-place.invariant in
+    let long : length c.args.verdicts.now.list ≤ c.loop-place.place =
+    rw c.as_slice-verdict-items.ensures at c.loop-place-test.false in
+    let none = found_none (parts_of c.args.depth) c.args.verdicts.now.list c.loop-place.place
+    c.loop-place.found long c.in_err-block.was c.loop-place.invariant in
     record { extent = rw c.from_residual.ensures none }
 
 pub cell_cube-requires-clause-cell : goal.cell_cube-requires-clause-cell
 cell_cube-requires-clause-cell c =
-    let long : length c.args.verdicts.now.list ≤ c.loop-place.place = rw c.as_slice-verdict-items.ensures at c.loop-place-test.false in
-    let few : c.loop-place.place ≤ length c.args.verdicts.now.list = rw c.as_slice-verdict-items.ensures at c.loop-place.auto.place-end in
-    let cells = cells_seen (parts_of c.args.depth) c.args.verdicts.now.list c.loop-place.place (pow_pos c.args.depth) (omega (arith, few, c.requires.verdicts)) in
+    let few : c.loop-place.place ≤ length c.args.verdicts.now.list =
+    rw c.as_slice-verdict-items.ensures at c.loop-place.auto.place-end in
+    let cells = cells_seen (parts_of c.args.depth) c.args.verdicts.now.list c.loop-place.place
+    (pow_pos c.args.depth) (omega (arith, few, c.requires.verdicts)) in
     (in_grid _ _ _ cells (found_some _ _ _ c.loop-place.found _ c.in_ok-block.was c.loop-place.invariant)).0
 
 pub cell_cube-requires-2-clause-cell : goal.cell_cube-requires-2-clause-cell
 cell_cube-requires-2-clause-cell c =
-    let few : c.loop-place.place ≤ length c.args.verdicts.now.list = rw c.as_slice-verdict-items.ensures at c.loop-place.auto.place-end in
-    let cells = cells_seen (parts_of c.args.depth) c.args.verdicts.now.list c.loop-place.place (pow_pos c.args.depth) (omega (arith, few, c.requires.verdicts)) in
+    let few : c.loop-place.place ≤ length c.args.verdicts.now.list =
+    rw c.as_slice-verdict-items.ensures at c.loop-place.auto.place-end in
+    let cells = cells_seen (parts_of c.args.depth) c.args.verdicts.now.list c.loop-place.place
+    (pow_pos c.args.depth) (omega (arith, few, c.requires.verdicts)) in
     (in_grid _ _ _ cells (found_some _ _ _ c.loop-place.found _ c.in_ok-block.was c.loop-place.invariant)).1
 
 pub returns : goal.returns
 returns c =
-    let long : length c.args.verdicts.now.list ≤ c.loop-place.place = rw c.as_slice-verdict-items.ensures at c.loop-place-test.false in
-    let block = found_some (parts_of c.args.depth) c.args.verdicts.now.list c.loop-place.place c.loop-place.found _ c.in_ok-block.was c.loop-place.invariant in
-    let extent = extent_of c.args.verdicts.now.list c.args.cube.now (parts_of c.args.depth) c.loop-place.place _ long block in
+    let long : length c.args.verdicts.now.list ≤ c.loop-place.place =
+    rw c.as_slice-verdict-items.ensures at c.loop-place-test.false in
+    let block = found_some (parts_of c.args.depth) c.args.verdicts.now.list c.loop-place.place
+    c.loop-place.found _ c.in_ok-block.was c.loop-place.invariant in
+    let extent = extent_of c.args.verdicts.now.list c.args.cube.now (parts_of c.args.depth)
+    c.loop-place.place _ long block in
     record { extent = rw (c.cell_cube.ensures.cell, c.cell_cube-2.ensures.cell) extent }
