@@ -6,7 +6,10 @@ use Rattle.solid_base.specs.Ranges.{dot, column1, column2, column3}
 use Rattle.fixed_enclosure.specs.Values.{unit}
 use Rattle.fixed_enclosure.specs.Places.{Span3, offset, point_spans, offset_spans, dot_span}
 
--- IGES 5.3, type 124: a matrix moves a place by its rotation and then by its shift: each coordinate is the scalar product with a row, and the shift's added. The coordinates of the place are counted in parts, of which m are one step, those of the result in finer ones, of which `unit * m` are one step
+-- IGES 5.3, type 124: a matrix moves a place by its rotation and then by its shift: each coordinate
+-- is the scalar product with a row, and the shift's added. The coordinates of the place are counted
+-- in parts, of which m are one step, those of the result in finer ones, of which `unit * m` are one
+-- step
 unfoldable pub moved : ℕ → Affine → Vec3 → Vec3
 moved m a p = record {
   x = dot a.row1 p +ℤ a.shift.x *ℤ pos (unit * m);
@@ -14,9 +17,15 @@ moved m a p = record {
   z = dot a.row3 p +ℤ a.shift.z *ℤ pos (unit * m);
 }
 
--- IGES 5.3, type 124: a place is carried back by taking the shift off, and then by the transposed rotation: each coordinate is the scalar product with a column. A rotation that isn't exactly orthonormal is used as it is written. The result is counted in finer parts, as that of `moved`
+-- IGES 5.3, type 124: a place is carried back by taking the shift off, and then by the transposed
+-- rotation: each coordinate is the scalar product with a column. A rotation that isn't exactly
+-- orthonormal is used as it is written. The result is counted in finer parts, as that of `moved`
 unfoldable pub pulled : ℕ → Affine → Vec3 → Vec3
-pulled m a p = record { x = dot (offset m a.shift p) (column1 a); y = dot (offset m a.shift p) (column2 a); z = dot (offset m a.shift p) (column3 a) }
+pulled m a p = record {
+  x = dot (offset m a.shift p) (column1 a);
+  y = dot (offset m a.shift p) (column2 a);
+  z = dot (offset m a.shift p) (column3 a);
+}
 
 -- solidd's own: the same of places in spans
 unfoldable pub pulled_spans : Affine → Span3 → Span3

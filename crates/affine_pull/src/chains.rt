@@ -10,8 +10,8 @@ use fixed_enclosure::Box3;
 use solid_base::{MOST_LEVELS, Row, Rows};
 
 /// The places of a box, in steps, carried back through the chain of matrices that begins at the row
-/// with the number `matrix`, from its last one to its first. 0, or a row that is no matrix, is the chain
-/// without matrices, and gives the box itself. Each row's parameters are in their ranges.
+/// with the number `matrix`, from its last one to its first. 0, or a row that is no matrix, is the
+/// chain without matrices, and gives the box itself. Each row's parameters are in their ranges.
 #[tactic(auto, unfolding(crate::specs::Chains::chain_of))]
 pub fn pull_chain(rows: &Rows, matrix: u32, at: &Box3) -> Box3
     requires rows { AllByRecursion (λ e. IsLawfulRow e.row) rows.now }

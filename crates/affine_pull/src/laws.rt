@@ -10,10 +10,11 @@ ghost use Rattle.solid_base.specs.References.{row_at};
 ghost use Rattle.fixed_enclosure.specs.Places.{Span3, SpansHold, AreNested};
 ghost use Rattle.fixed_enclosure.specs.Values.{unit};
 ghost use Rattle.affine_pull.specs.Matrices.{moved, pulled, pulled_spans, IsExact, finer};
-ghost use Rattle.affine_pull.specs.Chains.{chain_step, chain_of, parts_through, moved_through, pulled_through, spans_through};
+ghost use Rattle.affine_pull.specs.Chains.{chain_step, chain_of, parts_through, moved_through};
+ghost use Rattle.affine_pull.specs.Chains.{pulled_through, spans_through};
 
-/// The spans carried back hold each place carried back that the spans held: a place whose coordinates
-/// are counted in parts, of which `m` are one step. Parts stay parts of a step.
+/// The spans carried back hold each place carried back that the spans held: a place whose
+/// coordinates are counted in parts, of which `m` are one step. Parts stay parts of a step.
 pub fn enclosure()
     ensures matrix { (m : ℕ) (a : Affine) (s : Span3) (p : Vec3) → SpansHold m s p →
         SpansHold (unit * m) (pulled_spans a s) (pulled m a p) }
@@ -22,8 +23,8 @@ pub fn enclosure()
     ensures parts { (m : ℕ) (chain : List Affine) → 0 < m → 0 < parts_through m chain }
 {}
 
-/// Carrying back undoes the move, by a matrix or by a chain of them, where the rotations are exact: it
-/// gives the very place that was moved, in finer parts.
+/// Carrying back undoes the move, by a matrix or by a chain of them, where the rotations are exact:
+/// it gives the very place that was moved, in finer parts.
 pub fn undoing()
     ensures matrix { (m : ℕ) (a : Affine) (p : Vec3) → IsExact a →
         pulled (unit * m) a (moved m a p) ≡ finer (unit * unit) p }
@@ -32,8 +33,8 @@ pub fn undoing()
         finer (parts_through 1 chain * parts_through 1 chain) p }
 {}
 
-/// A place that is carried back is the same however finely its coordinates are counted: in parts, of
-/// which `m` are one step, or in parts that are `n` times finer.
+/// A place that is carried back is the same however finely its coordinates are counted: in parts,
+/// of which `m` are one step, or in parts that are `n` times finer.
 pub fn scale()
     ensures matrix { (m n : ℕ) (a : Affine) (p : Vec3) →
         pulled (n * m) a (finer n p) ≡ finer n (pulled m a p) }

@@ -7,8 +7,8 @@ ghost use Rattle.affine_pull.specs.Matrices.{pulled_spans};
 use fixed_enclosure::{Box3, along, offset};
 use solid_base::Affine;
 
-/// The places of a box, in steps, carried back through a matrix whose parameters are in their ranges:
-/// the shift is taken off, and then each coordinate is the scalar product with a column.
+/// The places of a box, in steps, carried back through a matrix whose parameters are in their
+/// ranges: the shift is taken off, and then each coordinate is the scalar product with a column.
 #[tactic(auto, unfolding(crate::specs::Matrices::pulled_spans))]
 pub fn pull(matrix: &Affine, at: &Box3) -> Box3
     requires matrix { IsLawfulMatrix matrix.now }

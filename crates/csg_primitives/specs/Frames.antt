@@ -1,4 +1,5 @@
--- Exact places in the local axes of a primitive. The coordinates of a place are counted in parts, of which m are one step.
+-- Exact places in the local axes of a primitive. The coordinates of a place are counted in parts,
+-- of which m are one step.
 use Rattle.std.specs.Prelude.{ℕ, ◌*◌, ℤ, pos, ◌-ℤ◌, ◌*ℤ◌}
 use Rattle.solid_base.specs.declared.geometry.Vec3.{Vec3}
 use Rattle.solid_base.specs.Ranges.{dot}
@@ -7,7 +8,11 @@ use Rattle.fixed_enclosure.specs.Places.{offset}
 
 -- solidd's own: the vector product of two directions
 unfoldable pub cross : Vec3 → Vec3 → Vec3
-cross a b = record { x = a.y *ℤ b.z -ℤ a.z *ℤ b.y; y = a.z *ℤ b.x -ℤ a.x *ℤ b.z; z = a.x *ℤ b.y -ℤ a.y *ℤ b.x }
+cross a b = record {
+  x = a.y *ℤ b.z -ℤ a.z *ℤ b.y;
+  y = a.z *ℤ b.x -ℤ a.x *ℤ b.z;
+  z = a.x *ℤ b.y -ℤ a.y *ℤ b.x;
+}
 
 -- solidd's own: the square of a length
 abbrev pub squared_length : Vec3 → ℤ
@@ -25,11 +30,13 @@ height m foot w p = dot (offset m foot p) w
 unfoldable pub squared_radius : ℕ → Vec3 → Vec3 → Vec3 → ℤ
 squared_radius m foot w p = squared_length (cross (offset m foot p) w)
 
--- solidd's own: the Y axis is w × u, which has a square unit of steps, so in local coordinates `local_parts m` parts are one step
+-- solidd's own: the Y axis is w × u, which has a square unit of steps, so in local coordinates
+-- `local_parts m` parts are one step
 abbrev pub local_parts : ℕ → ℕ
 local_parts m = unit * axis_parts m
 
--- IGES 5.3, types 150, 152, 168: the coordinates of a place along the local axes u, w × u and w, from the corner or centre on
+-- IGES 5.3, types 150, 152, 168: the coordinates of a place along the local axes u, w × u and w,
+-- from the corner or centre on
 unfoldable pub local_place : ℕ → Vec3 → Vec3 → Vec3 → Vec3 → Vec3
 local_place m from u w p = record {
   x = dot (offset m from p) u *ℤ pos unit;

@@ -1,4 +1,5 @@
--- Enclosed places in the local axes of a primitive: what a box of places may have as coordinates, computed in spans.
+-- Enclosed places in the local axes of a primitive: what a box of places may have as coordinates,
+-- computed in spans.
 use Rattle.solid_base.specs.declared.geometry.Vec3.{Vec3}
 use Rattle.std.specs.Prelude.{◌≡◌, pos, Bool, true, false}
 use Rattle.fixed_enclosure.specs.Spans.{Span, Every, Between, area_bound}
@@ -11,7 +12,11 @@ turn_span a b c d = narrow_of (minus_of area_bound (times_of a b) (times_of c d)
 
 -- solidd's own: the vector product, over a unit
 unfoldable pub cross_spans : Span3 → Span3 → Span3
-cross_spans a b = record { x = turn_span a.y b.z a.z b.y; y = turn_span a.z b.x a.x b.z; z = turn_span a.x b.y a.y b.x }
+cross_spans a b = record {
+  x = turn_span a.y b.z a.z b.y;
+  y = turn_span a.z b.x a.x b.z;
+  z = turn_span a.x b.y a.y b.x;
+}
 
 -- solidd's own: the square of a length
 unfoldable pub squared_length_span : Span3 → Span
@@ -23,13 +28,19 @@ height_span foot w p = dot_span (offset_spans p foot) (point_spans w)
 
 -- IGES 5.3, types 154, 156, 160: the square of the distance from the axis
 unfoldable pub squared_radius_span : Vec3 → Vec3 → Span3 → Span
-squared_radius_span foot w p = squared_length_span (cross_spans (offset_spans p foot) (point_spans w))
+squared_radius_span foot w p =
+    squared_length_span (cross_spans (offset_spans p foot) (point_spans w))
 
 -- solidd's own: the coordinates of a way along the local axes u, w × u and w
 abbrev pub frame_spans : Vec3 → Vec3 → Span3 → Span3
-frame_spans u w d = record { x = dot_span d (point_spans u); y = dot_span d (cross_spans (point_spans w) (point_spans u)); z = dot_span d (point_spans w) }
+frame_spans u w d = record {
+  x = dot_span d (point_spans u);
+  y = dot_span d (cross_spans (point_spans w) (point_spans u));
+  z = dot_span d (point_spans w);
+}
 
--- IGES 5.3, types 150, 152, 168: the coordinates along the local axes u, w × u and w, from the corner or centre on
+-- IGES 5.3, types 150, 152, 168: the coordinates along the local axes u, w × u and w, from the
+-- corner or centre on
 unfoldable pub local_spans : Vec3 → Vec3 → Vec3 → Span3 → Span3
 local_spans from u w p = frame_spans u w (offset_spans p from)
 

@@ -4,7 +4,8 @@ ghost use Rattle.fixed_enclosure.specs.Spans.{enc_span, area_span, IsEnc, IsArea
 ghost use Rattle.fixed_enclosure.specs.declared.enclosures.Sign.TheVariants.{Negative};
 ghost use Rattle.fixed_enclosure.specs.Places.{spans_of};
 ghost use Rattle.fixed_enclosure.specs.Values.{sign_of};
-ghost use Rattle.csg_primitives.specs.WrittenMargins.{span_class, less_ratio, ellipsoid_span, ellipsoid_spans};
+ghost use Rattle.csg_primitives.specs.WrittenMargins.{span_class, less_ratio, ellipsoid_span};
+ghost use Rattle.csg_primitives.specs.WrittenMargins.{ellipsoid_spans};
 
 use super::signs::class_of;
 use fixed_enclosure::{Area, Box3, Enc, area_minus, area_sign, ratio, square};
@@ -24,8 +25,8 @@ pub(crate) fn ellipsoid_class(size: &Vec3, at: &Box3) -> Class
     }
 }
 
-// Whether something is known of each coordinate, and one of them is far enough beyond its semi-axis for
-// the margin to be negative, whatever the others are.
+// Whether something is known of each coordinate, and one of them is far enough beyond its semi-axis
+// for the margin to be negative, whatever the others are.
 fn is_beyond(size: &Vec3, at: &Box3) -> bool
     requires sizes { AreSizes size.now }
     requires at_within { IsBox at.now }
@@ -45,8 +46,8 @@ fn is_beyond(size: &Vec3, at: &Box3) -> bool
     }
 }
 
-// Whether numbers lie beyond a size by so much that their ratios, rounded, are beyond 1: a size has at
-// most 100,000 units.
+// Whether numbers lie beyond a size by so much that their ratios, rounded, are beyond 1: a size has
+// at most 100,000 units.
 fn is_past(size: i128, lo: i128, hi: i128) -> bool
     requires size_within { IsSize size }
     ensures { result ≡

@@ -1,14 +1,18 @@
 ghost use Rattle.std.specs.Prelude.{◌≡◌, true};
 ghost use Rattle.solid_base.specs.Range.{IsPointWithin, far};
-ghost use Rattle.fixed_enclosure.specs.Spans.{enc_span, area_span, area_bound, IsEnc, IsArea, IsBox};
+ghost use Rattle.fixed_enclosure.specs.Spans.{enc_span, area_span, area_bound, IsEnc, IsArea};
+ghost use Rattle.fixed_enclosure.specs.Spans.{IsBox};
 ghost use Rattle.fixed_enclosure.specs.Values.{sum_of, square_of};
 ghost use Rattle.fixed_enclosure.specs.Places.{spans_of, point_spans, dot_span};
-ghost use Rattle.csg_primitives.specs.WrittenFrames.{cross_spans, squared_length_span, height_span, squared_radius_span, local_spans, frame_spans, along_x, along_z, AreKnown};
+ghost use Rattle.csg_primitives.specs.WrittenFrames.{cross_spans, squared_length_span, height_span};
+ghost use Rattle.csg_primitives.specs.WrittenFrames.{squared_radius_span, local_spans, frame_spans};
+ghost use Rattle.csg_primitives.specs.WrittenFrames.{along_x, along_z, AreKnown};
 
 use fixed_enclosure::{Area, Box3, Enc, area_sum, dot, offset, point_box, square, three_sum, turn};
 use solid_base::{U, Vec3};
 
-/// The coordinates of places along the local axes `u`, `w` × `u` and `w`, from a corner or centre on.
+/// The coordinates of places along the local axes `u`, `w` × `u` and `w`, from a corner or centre
+/// on.
 #[tactic(auto, unfolding(crate::specs::WrittenFrames::local_spans))]
 pub(crate) fn local_box(at: &Box3, from: &Vec3, u: &Vec3, w: &Vec3) -> Box3
     requires at_within { IsBox at.now }

@@ -26,8 +26,8 @@ pub fn soundness()
         primitive_class m p at ≡ Class.Outside }
 {}
 
-/// The cause of each class. `Mixed` comes exactly where no written margin is negative, and one may be
-/// 0; a margin has no sign exactly where it may be 0.
+/// The cause of each class. `Mixed` comes exactly where no written margin is negative, and one may
+/// be 0; a margin has no sign exactly where it may be 0.
 pub fn causes()
     ensures inside { (p : Primitive) (box : Box3) → (written_class p box ≡ Class.Inside) ↔
         All (λ s. sign_of s ≡ Sign.Positive) (written_margins p (spans_of box)) }
@@ -46,10 +46,11 @@ pub fn nesting()
         written_class p inner ≡ written_class p outer }
 {}
 
-/// At a single point, with axes along the coordinates, the class of a block, a wedge, a cylinder or a
-/// sphere is exact.
+/// At a single point, with axes along the coordinates, the class of a block, a wedge, a cylinder or
+/// a sphere is exact.
 pub fn sharpness()
-    ensures exact { (p : Primitive) (at : Vec3) → IsLawfulPrim p → IsSharp p → IsPointWithin far at →
+    ensures exact { (p : Primitive) (at : Vec3) → IsLawfulPrim p → IsSharp p
+        → IsPointWithin far at →
         written_class p (box_of (point_cube at)) ≡ primitive_class 1 p at }
 {}
 

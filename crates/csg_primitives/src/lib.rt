@@ -1,6 +1,6 @@
-//! Where the places of a box lie against one primitive solid, by `leaf`.
-//! Contracts see the margins of the primitive, exact whole numbers at a point and spans over a box, and
-//! the class that their signs tell.
+//! Where the places of a box lie against one primitive solid, by `leaf`. Contracts see the margins
+//! of the primitive, exact whole numbers at a point and spans over a box, and the class that their
+//! signs tell.
 #![tactic(auto)]
 
 mod balls;

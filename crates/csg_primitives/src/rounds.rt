@@ -4,7 +4,9 @@ ghost use Rattle.solid_base.specs.Ranges.{IsSize};
 ghost use Rattle.fixed_enclosure.specs.Spans.{enc_span, area_span, IsEnc, IsArea, IsBox};
 ghost use Rattle.fixed_enclosure.specs.Places.{spans_of};
 ghost use Rattle.csg_primitives.specs.WrittenFrames.{height_span, squared_radius_span};
-ghost use Rattle.csg_primitives.specs.WrittenMargins.{span_class, cone_span, torus_span, torus_sum_span, cylinder_spans, cone_spans, torus_spans};
+ghost use Rattle.csg_primitives.specs.WrittenMargins.{span_class, cone_span, torus_span};
+ghost use Rattle.csg_primitives.specs.WrittenMargins.{torus_sum_span, cylinder_spans, cone_spans};
+ghost use Rattle.csg_primitives.specs.WrittenMargins.{torus_spans};
 
 use super::balls::within_radius;
 use super::frames::{Axial, along};
@@ -15,8 +17,8 @@ use fixed_enclosure::{
 };
 use solid_base::{Class, Vec3};
 
-/// The class of a cylinder over a box (IGES 5.3, type 154). The distance from the axis is found only
-/// where places don't lie beyond a face.
+/// The class of a cylinder over a box (IGES 5.3, type 154). The distance from the axis is found
+/// only where places don't lie beyond a face.
 #[tactic(auto, unfolding(crate::specs::WrittenFrames::height_span, crate::specs::WrittenFrames::squared_radius_span))]
 pub(crate) fn cylinder_over(h: i128, r: i128, foot: &Vec3, w: &Vec3, at: &Box3) -> Class
     requires h_within { IsSize h }
@@ -36,8 +38,8 @@ pub(crate) fn cylinder_over(h: i128, r: i128, foot: &Vec3, w: &Vec3, at: &Box3) 
     }
 }
 
-/// The class of a cone over a box (IGES 5.3, type 156), with the distance from the axis found as for a
-/// cylinder.
+/// The class of a cone over a box (IGES 5.3, type 156), with the distance from the axis found as
+/// for a cylinder.
 #[tactic(auto, unfolding(crate::specs::WrittenFrames::height_span, crate::specs::WrittenFrames::squared_radius_span))]
 pub(crate) fn cone_over(h: i128, r1: i128, r2: i128, foot: &Vec3, w: &Vec3, at: &Box3) -> Class
     requires h_within { IsSize h }

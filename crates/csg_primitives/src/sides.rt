@@ -6,7 +6,8 @@ ghost use Rattle.fixed_enclosure.specs.declared.enclosures.Sign.TheVariants.{Neg
 ghost use Rattle.fixed_enclosure.specs.Values.{sign_of};
 ghost use Rattle.fixed_enclosure.specs.Places.{spans_of, point_spans, dot_span};
 ghost use Rattle.csg_primitives.specs.WrittenFrames.{local_spans};
-ghost use Rattle.csg_primitives.specs.WrittenMargins.{both_signs, span_class, below_span, slant_span, block_spans, wedge_spans};
+ghost use Rattle.csg_primitives.specs.WrittenMargins.{both_signs, span_class, below_span};
+ghost use Rattle.csg_primitives.specs.WrittenMargins.{slant_span, block_spans, wedge_spans};
 
 use super::frames::{in_frame, is_along_z, reach};
 use super::signs::{both, class_of};
@@ -15,8 +16,8 @@ use fixed_enclosure::{
 };
 use solid_base::{Class, Vec3};
 
-/// The class of a block over a box (IGES 5.3, type 150). The other local axes are found only where places
-/// don't lie beyond the faces along the local Z axis.
+/// The class of a block over a box (IGES 5.3, type 150). The other local axes are found only where
+/// places don't lie beyond the faces along the local Z axis.
 #[tactic(auto, unfolding(crate::specs::WrittenFrames::local_spans))]
 pub(crate) fn block_over(size: &Vec3, corner: &Vec3, u: &Vec3, w: &Vec3, at: &Box3) -> Class
     requires sizes { AreSizes size.now }
@@ -53,7 +54,8 @@ pub(crate) fn wedge_over(
     requires w_within { IsPointWithin far w.now }
     requires at_within { IsBox at.now }
     ensures { result ≡
-        span_class (wedge_spans size.now ltx (local_spans corner.now u.now w.now (spans_of at.now))) }
+        span_class
+        (wedge_spans size.now ltx (local_spans corner.now u.now w.now (spans_of at.now))) }
 {
     let d = offset(at, corner);
     if is_beyond_faces(size.z, &d, w) {
@@ -63,8 +65,8 @@ pub(crate) fn wedge_over(
     }
 }
 
-/// Whether a way ends beyond a face at its start or at a length along an axis. Not asked along the model's
-/// Z axis, where local coordinates cost nothing.
+/// Whether a way ends beyond a face at its start or at a length along an axis. Not asked along the
+/// model's Z axis, where local coordinates cost nothing.
 pub(crate) fn is_beyond_faces(size: i128, d: &Box3, w: &Vec3) -> bool
     requires size_within { IsSize size }
     requires d_within { IsBox d.now }

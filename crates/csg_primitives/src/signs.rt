@@ -4,7 +4,8 @@ ghost use Rattle.csg_primitives.specs.WrittenMargins.{both_signs, sign_class};
 use fixed_enclosure::Sign;
 use solid_base::Class;
 
-/// The sign that two margins tell together: `Negative` where one of them is, `Positive` where both are.
+/// The sign that two margins tell together: `Negative` where one of them is, `Positive` where both
+/// are.
 #[tactic(auto, unfolding(crate::specs::WrittenMargins::both_signs))]
 pub(crate) fn both(a: Sign, b: Sign) -> Sign
     ensures { result ≡ both_signs a b }

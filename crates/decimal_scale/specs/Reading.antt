@@ -1,9 +1,11 @@
 -- What a text is read as: the steps of its reading up to the bound, and the magnitudes on the way
 -- to them.
-use Rattle.std.specs.Prelude.{ℕ, ◌+◌, ◌-◌, ◌*◌, ◌^◌, List, length, min, fold, IsTrue, Bool, true, false, cond, nat_lt, Option, Some, None, Result, Ok, Err, ℤ}
+use Rattle.std.specs.Prelude.{ℕ, ◌+◌, ◌-◌, ◌*◌, ◌^◌, List, length, min, fold, IsTrue, Bool, true}
+use Rattle.std.specs.Prelude.{false, cond, nat_lt, Option, Some, None, Result, Ok, Err, ℤ}
 use Rattle.std.specs.List.{All}
 use Rattle.solid_base.specs.Digits.{is_digit}
-use Rattle.solid_base.specs.Spelling.{Sign, NoSign, Plus, Minus, Number, decimals_of, sign_of, Spelling, Empty, Whole, Real, class_of, number_of_text}
+use Rattle.solid_base.specs.Spelling.{Sign, NoSign, Plus, Minus, Number, decimals_of, sign_of}
+use Rattle.solid_base.specs.Spelling.{Spelling, Empty, Whole, Real, class_of, number_of_text}
 use Rattle.solid_base.specs.Decimal.{mantissa_of, raised_by, lowered_by, with_sign, nearest}
 use Rattle.decimal_scale.specs.declared.faults.RealFault.{RealFault}
 use Rattle.decimal_scale.specs.declared.faults.RealFault.TheVariants.{BadReal, TooBig}
@@ -36,7 +38,9 @@ in_range n = cond (nat_lt n past) (Ok n) (Err TooBig)
 
 -- the rounded magnitude of a number in steps
 abbrev pub size_of : Number → ℕ
-size_of n = nearest (mantissa_of n) (12 + raised_by n.exponent) (length (decimals_of n.fraction) + lowered_by n.exponent)
+size_of n =
+    nearest (mantissa_of n) (12 + raised_by n.exponent)
+    (length (decimals_of n.fraction) + lowered_by n.exponent)
 
 -- the magnitude of a text with these parts, where it is a number
 abbrev pub sized : Option Spelling → Number → Result ℕ RealFault

@@ -14,8 +14,8 @@ use crate::scaling::magnitude;
 use solid_base::{after_sign, digit_count};
 
 /// The steps, of 10^-12 units, that a whole or real number is read as (IGES 5.3, 2.2.2 (constants)
-/// (constants), and solidd's own small letters `e` and `d`): its exact value in steps, rounded to the
-/// nearest whole number, ties away from zero. It takes no memory, and work by the length of the
+/// (constants), and solidd's own small letters `e` and `d`): its exact value in steps, rounded to
+/// the nearest whole number, ties away from zero. It takes no memory, and work by the length of the
 /// text alone.
 ///
 /// `BadReal` exactly where the text is neither a whole nor a real number; `TooBig` exactly where

@@ -1,10 +1,12 @@
--- The first fault of a model's references: kind by kind, within a kind row by row, within a row reference by reference.
+-- The first fault of a model's references: kind by kind, within a kind row by row, within a row
+-- reference by reference.
 use Rattle.std.specs.Prelude.{◌≡◌, ℕ, ◌≤◌, ◌<◌, List, ◌∷◌, ◌++◌}
 use Rattle.std.specs.List.{AllByRecursion}
 use Rattle.solid_base.specs.declared.entities.Entity.{Entity}
 use Rattle.solid_base.specs.declared.references.Reference.{Reference}
 use Rattle.solid_base.specs.References.{target, references_of, row_at}
-use Rattle.solid_base.specs.Graph.{IsDangling, IsMisdirected, ReachesCycle, depth_of, most_levels, weight_of, most_weight}
+use Rattle.solid_base.specs.Graph.{IsDangling, IsMisdirected, ReachesCycle, depth_of, most_levels}
+use Rattle.solid_base.specs.Graph.{weight_of, most_weight}
 use Rattle.entity_graph.specs.declared.graph_faults.GraphFault.{GraphFault}
 use Rattle.entity_graph.specs.declared.graph_faults.GraphFault.TheVariants as fault
 
@@ -32,7 +34,8 @@ AreShallow rows = (e : ℕ) → depth_of rows e ≤ most_levels
 
 -- ---- first faults
 
--- solidd's own: the first reference of which a property holds, row by row and within the row in the order of its references: it stands in row e and names the number to
+-- solidd's own: the first reference of which a property holds, row by row and within the row in the
+-- order of its references: it stands in row e and names the number to
 pub record IsFirst (bad : Reference → Type 0) (rows : List Entity) (e to : ℕ) : Type 0 where
   pub earlier : (k : ℕ) → k < e → HasNo bad rows k
   pub front : List Reference
@@ -48,11 +51,17 @@ pub record IsFirstRow (bad : ℕ → Type 0) (e : ℕ) : Type 0 where
   pub holds : bad e
   pub earlier : (k : ℕ) → k < e → ¬ bad k
 
--- solidd's own: the first fault of a model's references; a kind is looked for in all rows only where no kind before it is found
+-- solidd's own: the first fault of a model's references; a kind is looked for in all rows only
+-- where no kind before it is found
 abbrev pub IsFault : List Entity → GraphFault → Type 0
 IsFault rows (fault.Memory e) = ⊥
 IsFault rows (fault.Dangling de to) = IsFirst (IsDangling rows) rows de to
 IsFault rows (fault.WrongTarget de to) = ArePresent rows × IsFirst (IsMisdirected rows) rows de to
-IsFault rows (fault.Cycle de) = ArePresent rows × AreDirected rows × IsFirstRow (ReachesCycle rows) de
-IsFault rows (fault.TooDeep de) = ArePresent rows × AreDirected rows × AreAcyclic rows × IsFirstRow (λ e. most_levels < depth_of rows e) de
-IsFault rows (fault.TooHeavy de) = ArePresent rows × AreDirected rows × AreAcyclic rows × AreShallow rows × IsFirstRow (λ e. most_weight < weight_of rows e) de
+IsFault rows (fault.Cycle de) =
+    ArePresent rows × AreDirected rows × IsFirstRow (ReachesCycle rows) de
+IsFault rows (fault.TooDeep de) =
+    ArePresent rows × AreDirected rows × AreAcyclic rows
+    × IsFirstRow (λ e. most_levels < depth_of rows e) de
+IsFault rows (fault.TooHeavy de) =
+    ArePresent rows × AreDirected rows × AreAcyclic rows × AreShallow rows
+    × IsFirstRow (λ e. most_weight < weight_of rows e) de

@@ -16,11 +16,13 @@ fault_number (fault.TooHeavy de) = 6
 abbrev pub IsOfText : GraphFault → Type 0
 IsOfText f = fault_number f ≢ 1
 
--- solidd's own: the fault's name and its numbers, blanks between them. Out of memory is never printed, and so has no words
+-- solidd's own: the fault's name and its numbers, blanks between them. Out of memory is never
+-- printed, and so has no words
 abbrev pub fault_words : GraphFault → List ℕ
 fault_words (fault.Memory e) = codes ""
 fault_words (fault.Dangling de to) = (codes "Dangling " ++ decimal de) ++ codes " " ++ decimal to
-fault_words (fault.WrongTarget de to) = (codes "WrongTarget " ++ decimal de) ++ codes " " ++ decimal to
+fault_words (fault.WrongTarget de to) =
+    (codes "WrongTarget " ++ decimal de) ++ codes " " ++ decimal to
 fault_words (fault.Cycle de) = codes "Cycle " ++ decimal de
 fault_words (fault.TooDeep de) = codes "TooDeep " ++ decimal de
 fault_words (fault.TooHeavy de) = codes "TooHeavy " ++ decimal de

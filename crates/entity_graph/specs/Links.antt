@@ -1,5 +1,6 @@
 -- solidd's own: the references of all rows, read once into one list.
-use Rattle.std.specs.Prelude.{◌≡◌, ℕ, ◌-◌, ◌≤◌, ◌*◌, ◌+◌, ◌/◌, zero, suc, List, [], ◌∷◌, map, take, drop, length, slice_index_or}
+use Rattle.std.specs.Prelude.{◌≡◌, ℕ, ◌-◌, ◌≤◌, ◌*◌, ◌+◌, ◌/◌, zero, suc, List, [], ◌∷◌, map, take}
+use Rattle.std.specs.Prelude.{drop, length, slice_index_or}
 use Rattle.solid_base.specs.declared.entities.Entity.{Entity}
 use Rattle.solid_base.specs.declared.references.Reference.{Reference}
 use Rattle.solid_base.specs.References.{target, references_of, row_at}

@@ -1,10 +1,12 @@
--- solidd's own: what a table holds of each row, and how the entry of a row comes from those of the rows that it names.
+-- solidd's own: what a table holds of each row, and how the entry of a row comes from those of the
+-- rows that it names.
 use Rattle.std.specs.Prelude.{◌≡◌, ℕ, zero, suc, List, [], ◌∷◌, min}
 use Rattle.solid_base.specs.declared.entities.Entity.{Entity}
 use Rattle.solid_base.specs.declared.solids.Row.{Row}
 use Rattle.solid_base.specs.declared.solids.Row.TheVariants as row
 use Rattle.solid_base.specs.References.{references, row_at}
-use Rattle.solid_base.specs.Graph.{greatest, row_weight, depth_of, weight_of, most_levels, most_weight}
+use Rattle.solid_base.specs.Graph.{greatest, row_weight, depth_of, weight_of, most_levels}
+use Rattle.solid_base.specs.Graph.{most_weight}
 use Rattle.entity_graph.specs.FirstFaults.{AreShallow}
 use Rattle.entity_graph.specs.Opaque.{IsFirstOpaque}
 use Rattle.entity_graph.specs.declared.tables.Measure.{Measure}
@@ -35,7 +37,8 @@ number_unread e (row.Instance child matrix) = 0
 abbrev pub step : Measure → List Entity → (ℕ → ℕ) → ℕ → ℕ
 step measure.Depth rows f e = min (suc most_levels) (suc (greatest f (references (row_at rows e))))
 step measure.Weight rows f e = min (suc most_weight) (row_weight f (row_at rows e))
-step measure.Opaque rows f e = lesser (number_unread e (row_at rows e)) (least f (references (row_at rows e)))
+step measure.Opaque rows f e =
+    lesser (number_unread e (row_at rows e)) (least f (references (row_at rows e)))
 
 -- what has to be known before a table is made
 abbrev pub IsReady : Measure → List Entity → Type 0

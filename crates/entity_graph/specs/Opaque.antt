@@ -23,7 +23,9 @@ IsOpaque rows e = IsUnread (row_at rows e)
 abbrev pub ReachesOpaque : List Entity → ℕ → ℕ → Type 0
 ReachesOpaque rows e k = Reaches rows e k × IsOpaque rows k
 
--- solidd's own: n is the least number of an entity that e reaches and that can't be evaluated, or 0 where e reaches none
+-- solidd's own: n is the least number of an entity that e reaches and that can't be evaluated, or 0
+-- where e reaches none
 abbrev pub IsFirstOpaque : List Entity → ℕ → ℕ → Type 0
 IsFirstOpaque rows e n =
-    ((n ≡ 0) × ((k : ℕ) → ¬ ReachesOpaque rows e k)) ⊎ (ReachesOpaque rows e n × ((k : ℕ) → ReachesOpaque rows e k → n ≤ k))
+    ((n ≡ 0) × ((k : ℕ) → ¬ ReachesOpaque rows e k))
+    ⊎ (ReachesOpaque rows e n × ((k : ℕ) → ReachesOpaque rows e k → n ≤ k))

@@ -1,4 +1,5 @@
--- solidd's own: rows as lists of the places that they name, what they reach, and an order in which what a row names comes before it.
+-- solidd's own: rows as lists of the places that they name, what they reach, and an order in which
+-- what a row names comes before it.
 use Rattle.std.specs.Prelude.{◌≡◌, ℕ, ◌<◌, List, [], length, slice_index_or}
 use Rattle.entity_graph.specs.declared.search.Mark.{Mark}
 use Rattle.entity_graph.specs.declared.search.Mark.TheVariants as mark
@@ -26,7 +27,8 @@ pub record Before (order : List ℕ) (i e : ℕ) : Type 0 where
 
 -- what each row names stands in front of it
 abbrev pub IsOrder : List (List ℕ) → List ℕ → Type 0
-IsOrder refs order = (i c : ℕ) → i < length order → Names refs (slice_index_or order i 0) c → Before order i c
+IsOrder refs order =
+    (i c : ℕ) → i < length order → Names refs (slice_index_or order i 0) c → Before order i c
 
 -- the row at a place reaches one that reaches itself by at least one reference
 pub record Rings (refs : List (List ℕ)) (e : ℕ) : Type 0 where

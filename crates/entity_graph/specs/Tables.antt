@@ -13,7 +13,8 @@ entry table e = slice_index_or table (e / 2) 0
 abbrev pub AreLight : List Entity → Type 0
 AreLight rows = (e : ℕ) → weight_of rows e ≤ most_weight
 
--- the references obey the rules, and the tables hold the depth, the weight and the first opaque row of each row
+-- the references obey the rules, and the tables hold the depth, the weight and the first opaque row
+-- of each row
 pub record AreTables (rows : List Entity) (depths weights opaques : List ℕ) : Type 0 where
   pub sound : AreSound rows
   pub depths_length : length depths ≡ length rows

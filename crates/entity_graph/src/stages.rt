@@ -1,9 +1,11 @@
-ghost use Rattle.std.specs.Prelude.{◌≡◌, ◌<◌, ◌≤◌, ◌+◌, ◌*◌, ℕ, suc, length, min, Ok, Err, IfOk, IfErr, MatchResult};
+ghost use Rattle.std.specs.Prelude.{◌≡◌, ◌<◌, ◌≤◌, ◌+◌, ◌*◌, ℕ, suc, length, min, Ok, Err, IfOk};
+ghost use Rattle.std.specs.Prelude.{IfErr, MatchResult};
 ghost use Rattle.solid_base.specs.References.{HasNumber};
 ghost use Rattle.solid_base.specs.Graph.{depth_of, weight_of, most_weight};
 ghost use Rattle.entity_graph.specs.GraphFaults.{IsOfText};
 ghost use Rattle.entity_graph.specs.declared.graph_faults.GraphFault.TheVariants as fault;
-ghost use Rattle.entity_graph.specs.FirstFaults.{ArePresent, AreDirected, AreAcyclic, AreShallow, IsFault};
+ghost use Rattle.entity_graph.specs.FirstFaults.{ArePresent, AreDirected, AreAcyclic, AreShallow};
+ghost use Rattle.entity_graph.specs.FirstFaults.{IsFault};
 ghost use Rattle.entity_graph.specs.Links.{places};
 ghost use Rattle.entity_graph.specs.Order.{IsWhole};
 ghost use Rattle.entity_graph.specs.Tables.{entry, AreLight};

@@ -1,4 +1,5 @@
-ghost use Rattle.std.specs.Prelude.{◌≡◌, ℕ, suc, ◌+◌, ◌*◌, ◌<◌, ◌≤◌, map, min, sum_by, length, slice_index_or, IfOk, MatchOption};
+ghost use Rattle.std.specs.Prelude.{◌≡◌, ℕ, suc, ◌+◌, ◌*◌, ◌<◌, ◌≤◌, map, min, sum_by, length};
+ghost use Rattle.std.specs.Prelude.{slice_index_or, IfOk, MatchOption};
 ghost use Rattle.solid_base.specs.References.{HasNumber, target, row_at, operands_of, items_of};
 ghost use Rattle.solid_base.specs.Graph.{greatest, row_weight, most_levels, most_weight};
 ghost use Rattle.entity_graph.specs.FirstFaults.{ArePresent};

@@ -9,7 +9,11 @@ use Rattle.fixed_enclosure.specs.Values.{point_of, sum_of, minus_of, times_of, n
 
 -- solidd's own: the way from a corner, a foot or a centre to a place
 unfoldable pub offset : ℕ → Vec3 → Vec3 → Vec3
-offset m from p = record { x = p.x -ℤ from.x *ℤ pos m; y = p.y -ℤ from.y *ℤ pos m; z = p.z -ℤ from.z *ℤ pos m }
+offset m from p = record {
+  x = p.x -ℤ from.x *ℤ pos m;
+  y = p.y -ℤ from.y *ℤ pos m;
+  z = p.z -ℤ from.z *ℤ pos m;
+}
 
 -- ---- places in spans
 

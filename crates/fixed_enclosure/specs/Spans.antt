@@ -49,7 +49,8 @@ IsArea a = IsSpan area_bound (area_span a)
 abbrev pub IsBox : Box3 → Type 0
 IsBox b = IsEnc b.x × IsEnc b.y × IsEnc b.z
 
--- solidd's own: a span holds the number x / m, which is x parts where m parts are one: its lowest number is at most that, and its highest at least
+-- solidd's own: a span holds the number x / m, which is x parts where m parts are one: its lowest
+-- number is at most that, and its highest at least
 abbrev pub Holds : ℕ → Span → ℤ → Type 0
 Holds m Every x = Unit {0}
 Holds m (Between lo hi) x = ((lo *ℤ pos m) ≤ℤ x) × (x ≤ℤ (hi *ℤ pos m))
@@ -66,11 +67,17 @@ IsUpTo m (Between lo hi) x = x ≤ℤ (hi *ℤ pos m)
 
 -- solidd's own: the places of a closed box
 abbrev pub box_of : Cube → Box3
-box_of c = record { x = enc.Span c.lo.x c.hi.x; y = enc.Span c.lo.y c.hi.y; z = enc.Span c.lo.z c.hi.z }
+box_of c = record {
+  x = enc.Span c.lo.x c.hi.x;
+  y = enc.Span c.lo.y c.hi.y;
+  z = enc.Span c.lo.z c.hi.z;
+}
 
--- solidd's own: a box holds the place whose coordinates are those of p, counted in parts where m parts are one step
+-- solidd's own: a box holds the place whose coordinates are those of p, counted in parts where m
+-- parts are one step
 abbrev pub BoxHolds : ℕ → Box3 → Vec3 → Type 0
-BoxHolds m b p = Holds m (enc_span b.x) p.x × Holds m (enc_span b.y) p.y × Holds m (enc_span b.z) p.z
+BoxHolds m b p =
+    Holds m (enc_span b.x) p.x × Holds m (enc_span b.y) p.y × Holds m (enc_span b.z) p.z
 
 -- solidd's own: the first span lies in the second
 abbrev pub IsIn : Span → Span → Type 0
@@ -80,4 +87,6 @@ IsIn (Between low high) (Between lo hi) = (lo ≤ℤ low) × (high ≤ℤ hi)
 
 -- solidd's own: the first box lies in the second
 abbrev pub IsBoxIn : Box3 → Box3 → Type 0
-IsBoxIn inner outer = IsIn (enc_span inner.x) (enc_span outer.x) × IsIn (enc_span inner.y) (enc_span outer.y) × IsIn (enc_span inner.z) (enc_span outer.z)
+IsBoxIn inner outer =
+    IsIn (enc_span inner.x) (enc_span outer.x) × IsIn (enc_span inner.y) (enc_span outer.y)
+    × IsIn (enc_span inner.z) (enc_span outer.z)

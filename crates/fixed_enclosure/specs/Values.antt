@@ -1,5 +1,7 @@
--- The spans that the calls give. Rounding goes outward, and where an end passes the bound nothing is known any more.
-use Rattle.std.specs.Prelude.{ℕ, ℤ, pos, neg_ℤ, ◌+ℤ◌, ◌-ℤ◌, ◌*ℤ◌, ◌*◌, ◌^◌, Bool, ◌&&◌, ◌||◌, int_lt, int_le, if◌then◌else◌}
+-- The spans that the calls give. Rounding goes outward, and where an end passes the bound nothing
+-- is known any more.
+use Rattle.std.specs.Prelude.{ℕ, ℤ, pos, neg_ℤ, ◌+ℤ◌, ◌-ℤ◌, ◌*ℤ◌, ◌*◌, ◌^◌, Bool, ◌&&◌, ◌||◌}
+use Rattle.std.specs.Prelude.{int_lt, int_le, if◌then◌else◌}
 use Rattle.std.specs.Int.{int_min, int_max, int_div_euclid}
 use Rattle.fixed_enclosure.specs.declared.enclosures.Sign.{Sign}
 use Rattle.fixed_enclosure.specs.declared.enclosures.Sign.TheVariants.{Negative, Positive, Open}
@@ -12,7 +14,8 @@ unit = 10 ^ 12
 
 -- solidd's own: the span from lo to hi, or every number where an end passes the bound
 abbrev pub bounded : ℕ → ℤ → ℤ → Span
-bounded bound lo hi = if int_lt lo (neg_ℤ (pos bound)) || int_lt (pos bound) hi then Every else Between lo hi
+bounded bound lo hi =
+    if int_lt lo (neg_ℤ (pos bound)) || int_lt (pos bound) hi then Every else Between lo hi
 
 -- solidd's own: one number
 abbrev pub point_of : ℤ → Span
@@ -39,7 +42,8 @@ greatest p q r s = int_max (int_max p q) (int_max r s)
 -- solidd's own: the products of two lengths, from the least to the greatest product of their ends
 unfoldable pub times_of : Span → Span → Span
 times_of (Between a b) (Between c d) =
-    bounded area_bound (least (a *ℤ c) (a *ℤ d) (b *ℤ c) (b *ℤ d)) (greatest (a *ℤ c) (a *ℤ d) (b *ℤ c) (b *ℤ d))
+    bounded area_bound (least (a *ℤ c) (a *ℤ d) (b *ℤ c) (b *ℤ d))
+    (greatest (a *ℤ c) (a *ℤ d) (b *ℤ c) (b *ℤ d))
 times_of _ _ = Every
 
 -- solidd's own: 0 lies from lo to hi
@@ -81,13 +85,17 @@ root_of (Between lo hi) = bounded enc_bound (floor_root lo) (ceil_root hi)
 abbrev pub cut : ℤ → ℤ → ℤ
 cut b z = int_max (neg_ℤ b) (int_min z b)
 
--- solidd's own: the ratios of a length to a size, in steps, where a ratio past 2 or -2 is taken as 2 or -2
+-- solidd's own: the ratios of a length to a size, in steps, where a ratio past 2 or -2 is taken as
+-- 2 or -2
 unfoldable pub ratio_of : ℤ → Span → Span
 ratio_of size Every = Every
 ratio_of size (Between lo hi) =
-    Between (cut (pos (2 * unit)) (floor_over (lo *ℤ pos unit) size)) (cut (pos (2 * unit)) (ceil_over (hi *ℤ pos unit) size))
+    Between (cut (pos (2 * unit)) (floor_over (lo *ℤ pos unit) size))
+    (cut (pos (2 * unit)) (ceil_over (hi *ℤ pos unit) size))
 
--- solidd's own: the sign that all numbers of a span have; `Open` where there is no such sign, or one of them is 0
+-- solidd's own: the sign that all numbers of a span have; `Open` where there is no such sign, or
+-- one of them is 0
 unfoldable pub sign_of : Span → Sign
 sign_of Every = Open
-sign_of (Between lo hi) = if int_lt hi (pos 0) then Negative else (if int_lt (pos 0) lo then Positive else Open)
+sign_of (Between lo hi) =
+    if int_lt hi (pos 0) then Negative else (if int_lt (pos 0) lo then Positive else Open)

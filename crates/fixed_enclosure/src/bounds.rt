@@ -1,5 +1,6 @@
 ghost use Rattle.std.specs.Prelude.{◌≡◌, ◌≤ℤ◌};
-ghost use Rattle.fixed_enclosure.specs.Spans.{enc_span, area_span, enc_bound, area_bound, IsEnc, IsArea};
+ghost use Rattle.fixed_enclosure.specs.Spans.{enc_span, area_span, enc_bound, area_bound, IsEnc};
+ghost use Rattle.fixed_enclosure.specs.Spans.{IsArea};
 ghost use Rattle.fixed_enclosure.specs.Values.{bounded};
 
 use super::enclosures::{Area, Enc};

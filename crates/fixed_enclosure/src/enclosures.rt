@@ -5,16 +5,16 @@ ghost use Rattle.fixed_enclosure.specs.Values.{point_of};
 
 use solid_base::Cube;
 
-/// A length in steps, or a pure number in millionths of a millionth: `All` where nothing is known of
-/// it, else from `lo` to `hi`, which are in order and within 10^18.
+/// A length in steps, or a pure number in millionths of a millionth: `All` where nothing is known
+/// of it, else from `lo` to `hi`, which are in order and within 10^18.
 #[derive(Clone, Copy, Debug, PartialEq, Eq)]
 pub enum Enc {
     All,
     Span { lo: i128, hi: i128 },
 }
 
-/// An area in square steps: `All` where nothing is known of it, else from `lo` to `hi`, which are in
-/// order and within 10^37.
+/// An area in square steps: `All` where nothing is known of it, else from `lo` to `hi`, which are
+/// in order and within 10^37.
 #[derive(Clone, Copy, Debug, PartialEq, Eq)]
 pub enum Area {
     All,

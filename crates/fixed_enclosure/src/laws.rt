@@ -1,4 +1,5 @@
-ghost use Rattle.std.specs.Prelude.{◌≡◌, ◌≢◌, ◌↔◌, ◌<◌, ◌≤◌, ◌+◌, ◌*◌, ℕ, ℤ, pos, ◌≤ℤ◌, ◌<ℤ◌, ◌+ℤ◌, ◌-ℤ◌, ◌*ℤ◌, unsigned_abs};
+ghost use Rattle.std.specs.Prelude.{◌≡◌, ◌≢◌, ◌↔◌, ◌<◌, ◌≤◌, ◌+◌, ◌*◌, ℕ, ℤ, pos, ◌≤ℤ◌, ◌<ℤ◌, ◌+ℤ◌};
+ghost use Rattle.std.specs.Prelude.{◌-ℤ◌, ◌*ℤ◌, unsigned_abs};
 ghost use Rattle.std.specs.Int.{int_max};
 ghost use Rattle.solid_base.specs.declared.geometry.Vec3.{Vec3};
 ghost use Rattle.solid_base.specs.declared.geometry.Cube.{Cube};
@@ -6,10 +7,14 @@ ghost use Rattle.solid_base.specs.Range.{IsPointWithin, far};
 ghost use Rattle.solid_base.specs.Ranges.{dot};
 ghost use Rattle.fixed_enclosure.specs.declared.enclosures.Box3.{Box3};
 ghost use Rattle.fixed_enclosure.specs.declared.enclosures.Sign.{Sign};
-ghost use Rattle.fixed_enclosure.specs.Spans.{Span, IsSpan, Holds, IsFrom, IsUpTo, BoxHolds, IsIn, IsBoxIn, box_of, enc_bound, area_bound};
+ghost use Rattle.fixed_enclosure.specs.Spans.{Span, IsSpan, Holds, IsFrom, IsUpTo, BoxHolds, IsIn};
+ghost use Rattle.fixed_enclosure.specs.Spans.{IsBoxIn, box_of, enc_bound, area_bound};
 ghost use Rattle.fixed_enclosure.specs.Roots.{whole_root, whole_root_up, floor_root, ceil_root};
-ghost use Rattle.fixed_enclosure.specs.Values.{bounded, point_of, sum_of, minus_of, times_of, square_of, narrow_of, root_of, ratio_of, sign_of, cut, unit};
-ghost use Rattle.fixed_enclosure.specs.Places.{Span3, offset, offset_spans, dot_span, SpansHold, Nested, AreNested};
+ghost use Rattle.fixed_enclosure.specs.Values.{bounded, point_of, sum_of, minus_of, times_of};
+ghost use Rattle.fixed_enclosure.specs.Values.{square_of, narrow_of, root_of, ratio_of, sign_of};
+ghost use Rattle.fixed_enclosure.specs.Values.{cut, unit};
+ghost use Rattle.fixed_enclosure.specs.Places.{Span3, offset, offset_spans, dot_span, SpansHold};
+ghost use Rattle.fixed_enclosure.specs.Places.{Nested, AreNested};
 
 /// A span holds what a span in it holds, and the same number counted in finer or in coarser parts.
 pub fn holding()
@@ -33,8 +38,8 @@ pub fn boxes()
         BoxHolds m a p → BoxHolds m b p }
 {}
 
-/// A point holds one number, and what is computed with points alone is a point where it is whole and
-/// within the bound.
+/// A point holds one number, and what is computed with points alone is a point where it is whole
+/// and within the bound.
 pub fn points()
     ensures holds { (m : ℕ) (v x : ℤ) → Holds m (point_of v) x ↔ (x ≡ v *ℤ pos m) }
     ensures sum { (bound : ℕ) (v w : ℤ) →
@@ -47,8 +52,8 @@ pub fn points()
         narrow_of (point_of (v *ℤ pos unit)) ≡ bounded enc_bound v v }
 {}
 
-/// The sum of spans in range is in range. It holds the sum of two numbers that they hold, and lies in
-/// the sum of spans round them.
+/// The sum of spans in range is in range. It holds the sum of two numbers that they hold, and lies
+/// in the sum of spans round them.
 pub fn sums()
     ensures within { (bound : ℕ) (s t : Span) →
         IsSpan bound s → IsSpan bound t → IsSpan bound (sum_of bound s t) }
@@ -94,8 +99,8 @@ pub fn narrowings()
 {}
 
 /// The same of the root: it holds the root of a number that the area holds, rounded down and up. So
-/// each number from 0 on whose square is no less than that number is no less than the root's lowest,
-/// and each whose square is no more than it, or than 0, is no more than the root's highest.
+/// each number from 0 on whose square is no less than that number is no less than the root's
+/// lowest, and each whose square is no more than it, or than 0, is no more than the root's highest.
 pub fn roots()
     ensures within { (s : Span) → IsSpan area_bound s → IsSpan enc_bound (root_of s) }
     ensures holds_floor { (m : ℕ) (s : Span) (x : ℤ) →
@@ -142,8 +147,8 @@ pub fn signs()
         sign_of s ≢ Sign.Open → sign_of p ≡ sign_of s }
 {}
 
-/// The same of the way from a point in range, and of the scalar product over a unit, whose parts are
-/// a unit smaller than the products of the operands' parts.
+/// The same of the way from a point in range, and of the scalar product over a unit, whose parts
+/// are a unit smaller than the products of the operands' parts.
 pub fn places()
     ensures offset_holds { (m : ℕ) (s : Span3) (from p : Vec3) → SpansHold m s p →
         SpansHold m (offset_spans s from) (offset m from p) }

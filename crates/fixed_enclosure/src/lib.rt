@@ -1,6 +1,7 @@
-//! Lengths and areas that are known to lie in a span of whole steps, and what is computed with them.
-//! Contracts see an enclosure as its span: every number, or those from a lowest to a highest. Each
-//! call gives the exact span; that it holds what its operands hold is a law of spans, in `laws`.
+//! Lengths and areas that are known to lie in a span of whole steps, and what is computed with
+//! them. Contracts see an enclosure as its span: every number, or those from a lowest to a highest.
+//! Each call gives the exact span; that it holds what its operands hold is a law of spans, in
+//! `laws`.
 #![tactic(auto)]
 
 mod bounds;

@@ -1,8 +1,10 @@
 ghost use Rattle.std.specs.Prelude.{◌≡◌};
 ghost use Rattle.solid_base.specs.Range.{IsWithin, IsPointWithin, far};
-ghost use Rattle.fixed_enclosure.specs.Spans.{enc_span, area_span, enc_bound, area_bound, IsEnc, IsArea, IsBox};
+ghost use Rattle.fixed_enclosure.specs.Spans.{enc_span, area_span, enc_bound, area_bound, IsEnc};
+ghost use Rattle.fixed_enclosure.specs.Spans.{IsArea, IsBox};
 ghost use Rattle.fixed_enclosure.specs.Values.{point_of, minus_of, times_of, narrow_of};
-ghost use Rattle.fixed_enclosure.specs.Places.{spans_of, point_spans, offset_spans, three_sum, dot_span};
+ghost use Rattle.fixed_enclosure.specs.Places.{spans_of, point_spans, offset_spans, three_sum};
+ghost use Rattle.fixed_enclosure.specs.Places.{dot_span};
 
 use super::enclosures::{Area, Box3, Enc};
 use super::products::{multiple, narrow, times};
@@ -59,7 +61,8 @@ pub fn dot(a: &Box3, b: &Box3) -> Enc
     narrow(three_sum(times(a.x, b.x), times(a.y, b.y), times(a.z, b.z)))
 }
 
-/// How far a way goes along one direction: the scalar product, where nothing of the direction is open.
+/// How far a way goes along one direction: the scalar product, where nothing of the direction is
+/// open.
 #[tactic(auto, unfolding(crate::specs::Places::dot_span))]
 pub fn along(way: &Box3, axis: &Vec3) -> Enc
     requires way_within { IsBox way.now }

@@ -1,7 +1,9 @@
 ghost use Rattle.std.specs.Prelude.{◌≡◌, ◌≤ℤ◌, ◌<ℤ◌, ◌*ℤ◌, ◌^◌, pos};
 ghost use Rattle.solid_base.specs.Range.{IsWithin};
-ghost use Rattle.fixed_enclosure.specs.Spans.{Between, enc_span, area_span, enc_bound, area_bound, IsSpan, IsEnc, IsArea};
-ghost use Rattle.fixed_enclosure.specs.Values.{bounded, point_of, least, greatest, times_of, square_of, narrow_of};
+ghost use Rattle.fixed_enclosure.specs.Spans.{Between, enc_span, area_span, enc_bound, area_bound};
+ghost use Rattle.fixed_enclosure.specs.Spans.{IsSpan, IsEnc, IsArea};
+ghost use Rattle.fixed_enclosure.specs.Values.{bounded, point_of, least, greatest, times_of};
+ghost use Rattle.fixed_enclosure.specs.Values.{square_of, narrow_of};
 
 use super::bounds::area_bounded;
 use super::enclosures::{Area, Enc};
@@ -23,8 +25,8 @@ pub fn times(a: Enc, b: Enc) -> Area
     }
 }
 
-// The products of the numbers from `a_lo` to `a_hi` with those from `b_lo` to `b_hi`. One of the two is
-// mostly one number, so that two products will do.
+// The products of the numbers from `a_lo` to `a_hi` with those from `b_lo` to `b_hi`. One of the
+// two is mostly one number, so that two products will do.
 fn product_span(a_lo: i128, a_hi: i128, b_lo: i128, b_hi: i128) -> Area
     requires a_lo_within { IsWithin enc_bound a_lo }
     requires a_hi_within { IsWithin enc_bound a_hi }
@@ -107,8 +109,8 @@ pub(crate) fn multiple(a: Enc, factor: i128) -> Area
     }
 }
 
-// The products of the numbers from `lo` to `hi` with one factor, whose sign says which end gives the
-// least of them.
+// The products of the numbers from `lo` to `hi` with one factor, whose sign says which end gives
+// the least of them.
 fn multiple_span(lo: i128, hi: i128, factor: i128) -> Area
     requires in_order { lo ≤ℤ hi }
     requires lo_within { IsWithin enc_bound lo }

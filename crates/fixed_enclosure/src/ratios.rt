@@ -52,7 +52,8 @@ fn ratio_down(z: i128, size: i128) -> i128
     }
 }
 
-// The ratio of a number to a size, rounded up. `low` is a ratio that is mostly no more than it, and near.
+// The ratio of a number to a size, rounded up. `low` is a ratio that is mostly no more than it, and
+// near.
 fn ratio_up(z: i128, size: i128, low: i128) -> i128
     requires z_within { IsWithin enc_bound z }
     requires size_above_zero { pos 1 ≤ℤ size }
@@ -102,9 +103,9 @@ fn over_size(z: u64, size: u64) -> u64
     }
 }
 
-// What a number over a size is, in parts of a unit. It is mostly right or one too low, so the caller
-// tests it. Both are scaled until the size has 62 bits, and 64 bits find 2^94 over the size. The number
-// is multiplied by that, and then what the first product leaves of it.
+// What a number over a size is, in parts of a unit. It is mostly right or one too low, so the
+// caller tests it. Both are scaled until the size has 62 bits, and 64 bits find 2^94 over the size.
+// The number is multiplied by that, and then what the first product leaves of it.
 fn near_over_size(z: u64, size: u64) -> u64
     requires size_above_zero { 0 < size }
     requires size_within { size ≤ far }

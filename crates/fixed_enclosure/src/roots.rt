@@ -95,8 +95,8 @@ fn far_ceil_root(z: i128) -> i128
     if root * root < z { root + 1 } else { root }
 }
 
-// The greatest number whose square is at most `z`. The root of the leading bits, 61 or 62 of them, is
-// so near to it that mostly no more steps are taken.
+// The greatest number whose square is at most `z`. The root of the leading bits, 61 or 62 of them,
+// is so near to it that mostly no more steps are taken.
 fn whole_root(z: u128) -> u128
     requires { z < 2 ^ 124 }
     ensures below { result * result ≤ z }
@@ -111,8 +111,9 @@ fn whole_root(z: u128) -> u128
     root_below(z, nearer(z, leading, shift))
 }
 
-// One of Newton's steps from the next number after the root of the leading bits, and one less where that
-// is not below the root. What the square of the start has too much is so little that 64 bits are divided.
+// One of Newton's steps from the next number after the root of the leading bits, and one less where
+// that is not below the root. What the square of the start has too much is so little that 64 bits
+// are divided.
 fn nearer(z: u128, leading: u64, shift: u32) -> u128
     requires below { leading * leading ≤ z / 2 ^ (2 * shift) }
     requires above { z / 2 ^ (2 * shift) < (leading + 1) * (leading + 1) }

@@ -1,5 +1,6 @@
 ghost use Rattle.std.specs.Prelude.{◌≡◌, ◌^◌};
-ghost use Rattle.fixed_enclosure.specs.Spans.{enc_span, area_span, enc_bound, area_bound, IsSpan, IsEnc, IsArea};
+ghost use Rattle.fixed_enclosure.specs.Spans.{enc_span, area_span, enc_bound, area_bound, IsSpan};
+ghost use Rattle.fixed_enclosure.specs.Spans.{IsEnc, IsArea};
 ghost use Rattle.fixed_enclosure.specs.Values.{sum_of, minus_of};
 ghost use Rattle.fixed_enclosure.specs.Places.{three_sum};
 

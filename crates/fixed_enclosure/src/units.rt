@@ -29,8 +29,8 @@ pub(crate) fn floor_unit(z: i128) -> i128
     over_unit((z + WIDEST) as u128) as i128 - ENC_BOUND
 }
 
-/// An end of an area over a unit, rounded up. `low` is a number of whole units that are no more than it,
-/// and mostly near.
+/// An end of an area over a unit, rounded up. `low` is a number of whole units that are no more
+/// than it, and mostly near.
 pub(crate) fn ceil_unit(z: i128, low: i128) -> i128
     requires z_within { IsWithin (10 ^ 30) z }
     requires low_within { IsWithin enc_bound low }
@@ -54,8 +54,8 @@ fn units_above(rest: u64) -> u64
     (rest + (STEPS_IN_UNIT - 1)) / STEPS_IN_UNIT
 }
 
-// A number over a unit, rounded down: long division by parts, since 64 bits are divided by a constant
-// in a tenth of the time of 128 bits.
+// A number over a unit, rounded down: long division by parts, since 64 bits are divided by a
+// constant in a tenth of the time of 128 bits.
 fn over_unit(n: u128) -> u64
     requires { n < 2 ^ 101 }
     ensures { result ≡ n / unit }

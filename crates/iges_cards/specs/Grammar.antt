@@ -1,7 +1,8 @@
--- A file in the fixed form (IGES 5.3, 2.2.4 (file structure)): the start, global, directory entry and parameter data
--- sections, and the terminate line. Directory and parameter lines may be absent, and parameter
--- lines stand after directory lines alone.
-use Rattle.std.specs.Prelude.{◌≡◌, ◌<◌, ◌⊎◌, ℕ, ◌+◌, List, [], ◌∷◌, ◌++◌, length, take, drop, slice_index}
+-- A file in the fixed form (IGES 5.3, 2.2.4 (file structure)): the start, global, directory entry
+-- and parameter data sections, and the terminate line. Directory and parameter lines may be absent,
+-- and parameter lines stand after directory lines alone.
+use Rattle.std.specs.Prelude.{◌≡◌, ◌<◌, ◌⊎◌, ℕ, ◌+◌, List, [], ◌∷◌, ◌++◌, length, take, drop}
+use Rattle.std.specs.Prelude.{slice_index}
 use Rattle.std.specs.List.{concat}
 use Rattle.solid_base.specs.Series.{Spells}
 use Rattle.iges_cards.specs.declared.reader.Cards.{Cards}
@@ -55,7 +56,8 @@ pub record IsTerminate (counts : Counts) (text rest : List ℕ) : Type 0 where
 
 -- the cards in front of the terminate line, and what is kept of them: columns 1 to 72 of the start
 -- and global lines, all columns of the directory lines, columns 1 to 64 of the parameter lines
-pub record AreSections (text : List ℕ) (start globals directory params : List (List ℕ)) : Type 0 where
+pub record AreSections (text : List ℕ)
+    (start globals directory params : List (List ℕ)) : Type 0 where
   pub start_text : List ℕ
   pub global_text : List ℕ
   pub directory_text : List ℕ
@@ -68,7 +70,12 @@ pub record AreSections (text : List ℕ) (start globals directory params : List 
 
 -- how many lines the sections have
 abbrev pub counts_of : List (List ℕ) → List (List ℕ) → List (List ℕ) → List (List ℕ) → Counts
-counts_of start globals directory params = record { start = length start; global = length globals; directory = length directory; parameter = length params }
+counts_of start globals directory params = record {
+  start = length start;
+  global = length globals;
+  directory = length directory;
+  parameter = length params;
+}
 
 -- the bytes are a file in the fixed form: its sections, its terminate line, and whatever stands
 -- after that
@@ -82,6 +89,7 @@ pub record IsFixedForm (bytes : List ℕ) (cards : Cards) : Type 0 where
   pub some_global : 0 < length globals
   pub directory_first : 0 < length cards.params → 0 < length cards.directory
   pub joined : cards.global ≡ concat globals
-  pub terminate : IsTerminate (counts_of cards.start globals cards.directory cards.params) terminate_text rest
+  pub terminate : IsTerminate
+      (counts_of cards.start globals cards.directory cards.params) terminate_text rest
   pub spelt : bytes ≡ sections_text ++ (terminate_text ++ rest)
   pub end : cards.end ≡ length sections_text + length terminate_text

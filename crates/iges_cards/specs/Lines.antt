@@ -1,6 +1,7 @@
 -- Lines of the fixed form (IGES 5.3, 2.2: lines of 80 columns). The line ends LF and CR LF, and
 -- blanks past column 80, are solidd's own.
-use Rattle.std.specs.Prelude.{◌≡◌, ◌≢◌, ◌⊎◌, ℕ, List, [], ◌∷◌, ◌++◌, Bool, false, cond, ◌==◌, ◌&&◌, length}
+use Rattle.std.specs.Prelude.{◌≡◌, ◌≢◌, ◌⊎◌, ℕ, List, [], ◌∷◌, ◌++◌, Bool, false, cond, ◌==◌, ◌&&◌}
+use Rattle.std.specs.Prelude.{length}
 use Rattle.solid_base.specs.Spelling.{AreBlanks}
 use Rattle.solid_base.specs.Texts.{IsOneLine}
 
@@ -8,7 +9,8 @@ use Rattle.solid_base.specs.Texts.{IsOneLine}
 -- end
 pub record IsLine (text line : List ℕ) : Type 0 where
   pub one_line : IsOneLine line
-  pub ended : (text ≡ line ++ 13 ∷ 10 ∷ []) ⊎ ((text ≡ line ++ 10 ∷ []) × ((front : List ℕ) → line ≢ front ++ 13 ∷ []))
+  pub ended : (text ≡ line ++ 13 ∷ 10 ∷ [])
+      ⊎ ((text ≡ line ++ 10 ∷ []) × ((front : List ℕ) → line ≢ front ++ 13 ∷ []))
 
 -- a line of 80 columns, and blanks alone after them
 pub record HasColumns (columns line : List ℕ) : Type 0 where

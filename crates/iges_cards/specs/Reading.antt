@@ -1,5 +1,6 @@
 -- The cards that stand in the bytes, or the first fault.
-use Rattle.std.specs.Prelude.{ℕ, ◌+◌, List, [], ◌∷◌, ◌++◌, cond, length, take, Option, None, Some, Result, Ok, Err}
+use Rattle.std.specs.Prelude.{ℕ, ◌+◌, List, [], ◌∷◌, ◌++◌, cond, length, take, Option, None, Some}
+use Rattle.std.specs.Prelude.{Result, Ok, Err}
 use Rattle.iges_cards.specs.declared.faults.CardFault.{CardFault}
 use Rattle.iges_cards.specs.declared.faults.CardFault.TheVariants as fault
 use Rattle.iges_cards.specs.declared.reader.Cards.{Cards}
@@ -25,12 +26,15 @@ no_cards = record { start = []; global = []; directory = []; params = []; end = 
 
 -- a line is checked and kept, and then those after it; the section of the line before, the numbers
 -- of lines, what was kept and the place are those of what was read before
-unfoldable pub read_from : Option Section → Counts → Cards → ℕ → List (List ℕ) → Result Cards CardFault
+unfoldable pub read_from
+    : Option Section → Counts → Cards → ℕ → List (List ℕ) → Result Cards CardFault
 read_from before counts cards place [] = Err fault.NoTerminate
 read_from before counts cards place (text ∷ texts) =
     card_in before counts (line_of text) >>= λ card.
-    cond (is_terminate card.0) (terminated counts card.1 >>= λ _. Ok (record cards { end = place + length text }))
-    (read_from (Some card.0) (one_more card.0 counts) (keep card.0 (take (width_of card.0) card.1) cards) (place + length text) texts)
+    cond (is_terminate card.0)
+    (terminated counts card.1 >>= λ _. Ok (record cards { end = place + length text }))
+    (read_from (Some card.0) (one_more card.0 counts)
+    (keep card.0 (take (width_of card.0) card.1) cards) (place + length text) texts)
 
 -- the cards that stand in the bytes, or the first fault
 unfoldable pub cards_in : List ℕ → Result Cards CardFault

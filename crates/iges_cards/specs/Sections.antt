@@ -15,8 +15,10 @@ letter_of section.Terminate = 84
 -- the section that a letter names
 abbrev pub section_of : ℕ → Option Section
 section_of letter =
-    cond (letter == 83) (Some section.Start) (cond (letter == 71) (Some section.Global) (cond (letter == 68) (Some section.Directory)
-    (cond (letter == 80) (Some section.Parameter) (cond (letter == 84) (Some section.Terminate) None))))
+    cond (letter == 83) (Some section.Start)
+    (cond (letter == 71) (Some section.Global) (cond (letter == 68) (Some section.Directory)
+    (cond (letter == 80) (Some section.Parameter)
+    (cond (letter == 84) (Some section.Terminate) None))))
 
 -- S comes first; after S comes S or G, after G also D or T, after D it is D, P or T, and after P it
 -- is P or T

@@ -30,4 +30,5 @@ fault_words (fault.BadSection line) = codes "BadSection " ++ decimal line
 fault_words (fault.BadSequence line) = codes "BadSequence " ++ decimal line
 fault_words fault.NoTerminate = codes "NoTerminate"
 fault_words fault.BadTerminate = codes "BadTerminate"
-fault_words (fault.CountMismatch letter told found) = codes "CountMismatch " ++ letter ∷ codes " " ++ decimal told ++ codes " " ++ decimal found
+fault_words (fault.CountMismatch letter told found) =
+    codes "CountMismatch " ++ letter ∷ codes " " ++ decimal told ++ codes " " ++ decimal found

@@ -22,6 +22,7 @@ abbrev pub fault_words : DirFault → List ℕ
 fault_words (fault.Memory e) = codes ""
 fault_words fault.OddLines = codes "OddLines"
 fault_words fault.TooManyEntities = codes "TooManyEntities"
-fault_words (fault.BadField entity field) = (codes "BadField " ++ decimal entity) ++ codes " " ++ decimal field
+fault_words (fault.BadField entity field) =
+    (codes "BadField " ++ decimal entity) ++ codes " " ++ decimal field
 fault_words (fault.TypeDiffers entity) = codes "TypeDiffers " ++ decimal entity
 fault_words (fault.TooMuchText entity) = codes "TooMuchText " ++ decimal entity

@@ -3,7 +3,8 @@
 -- number of lines, then the pairs of lines one by one; of a pair field 1, field 11, whether their
 -- types differ, field 2, field 14, whether the parameter lines so far are too many, field 7 and
 -- field 15. Each cause below says too that none before it in this order stands in the pair.
-use Rattle.std.specs.Prelude.{◌≡◌, ◌≢◌, ◌≤◌, ◌<◌, ◌⊎◌, ℕ, ◌+◌, ◌-◌, ◌*◌, ◌%◌, List, ◌∷◌, ◌++◌, length}
+use Rattle.std.specs.Prelude.{◌≡◌, ◌≢◌, ◌≤◌, ◌<◌, ◌⊎◌, ℕ, ◌+◌, ◌-◌, ◌*◌, ◌%◌, List, ◌∷◌, ◌++◌}
+use Rattle.std.specs.Prelude.{length}
 use Rattle.solid_base.specs.Spelling.{AreBlanks}
 use Rattle.iges_directory.specs.declared.directory_faults.DirFault.{DirFault}
 use Rattle.iges_directory.specs.declared.directory_faults.DirFault.TheVariants as fault

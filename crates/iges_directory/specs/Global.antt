@@ -1,5 +1,6 @@
 -- IGES 5.3, 2.2.4.3 (global section): the delimiters, and the parameters after them.
-use Rattle.std.specs.Prelude.{◌≡◌, ◌≢◌, ◌⊎◌, ℕ, ◌+◌, List, [], ◌∷◌, ◌++◌, Bool, false, IsTrue, length}
+use Rattle.std.specs.Prelude.{◌≡◌, ◌≢◌, ◌⊎◌, ℕ, ◌+◌, List, [], ◌∷◌, ◌++◌, Bool, false, IsTrue}
+use Rattle.std.specs.Prelude.{length}
 use Rattle.solid_base.specs.Spelling.{AreBlanks}
 use Rattle.solid_base.specs.declared.entities.Token.{Token}
 use Rattle.iges_fields.specs.Delimiters.{is_lawful}
@@ -15,7 +16,8 @@ use Rattle.iges_directory.specs.declared.globals.GlobalText.{GlobalText}
 -- how a delimiter is spelt: by nothing, where it is the usual one, or by `1H` (49, 72) and the
 -- delimiter, which is lawful
 abbrev pub SpellsDelimiter : ℕ → ℕ → List ℕ → Type 0
-SpellsDelimiter usual d spelt = ((spelt ≡ []) × (d ≡ usual)) ⊎ ((spelt ≡ 49 ∷ 72 ∷ d ∷ []) × IsTrue (is_lawful d))
+SpellsDelimiter usual d spelt =
+    ((spelt ≡ []) × (d ≡ usual)) ⊎ ((spelt ≡ 49 ∷ 72 ∷ d ∷ []) × IsTrue (is_lawful d))
 
 -- a text begins with a parameter that tells a delimiter: blanks, its spelling, blanks, and the byte
 -- that ends it
@@ -36,7 +38,8 @@ IsFirst comma text rest = TellsDelimiter 44 comma comma text rest
 -- a text begins with parameter 2: it tells semi, which is a semicolon where nothing is spelt, and
 -- which isn't comma again; semi ends it where it is the last parameter, else comma
 abbrev pub IsSecond : ℕ → ℕ → Bool → List ℕ → List ℕ → Type 0
-IsSecond comma semi ended text rest = (semi ≢ comma) × TellsDelimiter 59 semi (delimiter comma semi ended) text rest
+IsSecond comma semi ended text rest =
+    (semi ≢ comma) × TellsDelimiter 59 semi (delimiter comma semi ended) text rest
 
 -- a text is a global section with these delimiters and these parameters from the third on
 pub record IsGlobal (text : List ℕ) (global : GlobalText) : Type 0 where
@@ -52,7 +55,8 @@ pub record IsGlobal (text : List ℕ) (global : GlobalText) : Type 0 where
 abbrev pub BeginsWith : ℕ → ℕ → List ℕ → List Token → List ℕ → Type 0
 BeginsWith comma semi text [] rest = text ≡ rest
 BeginsWith comma semi text (t ∷ ts) rest =
-    (after : List ℕ) × IsField comma semi text (field_of t after false) × BeginsWith comma semi after ts rest
+    (after : List ℕ) × IsField comma semi text (field_of t after false)
+    × BeginsWith comma semi after ts rest
 
 -- a text begins with no field
 abbrev pub NoField : ℕ → ℕ → List ℕ → Type 0
@@ -75,7 +79,8 @@ pub record NoSecond (text : List ℕ) : Type 0 where
   pub comma : ℕ
   pub after_first : List ℕ
   pub first : IsFirst comma text after_first
-  pub none : (semi : ℕ) → (ended : Bool) → (rest : List ℕ) → IsSecond comma semi ended after_first rest → ⊥
+  pub none : (semi : ℕ) → (ended : Bool) → (rest : List ℕ)
+      → IsSecond comma semi ended after_first rest → ⊥
 
 -- parameter n is the first that is faulty: parameters 1 and 2 stand there, and of the fields after
 -- them it is the first that is none

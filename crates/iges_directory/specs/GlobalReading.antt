@@ -1,5 +1,6 @@
 -- The delimiters of a global section, found from the left.
-use Rattle.std.specs.Prelude.{ℕ, List, [], ◌∷◌, Bool, true, false, cond, ◌&&◌, ◌==◌, Option, Some, None}
+use Rattle.std.specs.Prelude.{ℕ, List, [], ◌∷◌, Bool, true, false, cond, ◌&&◌, ◌==◌, Option, Some}
+use Rattle.std.specs.Prelude.{None}
 use Rattle.solid_base.specs.Spelling.{after_blanks}
 use Rattle.iges_fields.specs.Delimiters.{is_lawful}
 
@@ -8,7 +9,8 @@ abbrev pub told_at : ℕ → List ℕ → ℕ × List ℕ
 told_at usual [] = (usual, [])
 told_at usual (a ∷ []) = (usual, a ∷ [])
 told_at usual (a ∷ b ∷ []) = (usual, a ∷ b ∷ [])
-told_at usual (a ∷ b ∷ d ∷ rest) = cond ((a == 49) && (b == 72) && is_lawful d) (d, after_blanks rest) (usual, a ∷ b ∷ d ∷ rest)
+told_at usual (a ∷ b ∷ d ∷ rest) =
+    cond ((a == 49) && (b == 72) && is_lawful d) (d, after_blanks rest) (usual, a ∷ b ∷ d ∷ rest)
 
 abbrev pub told : ℕ → List ℕ → ℕ × List ℕ
 told usual text = told_at usual (after_blanks text)
@@ -36,4 +38,5 @@ ended_by comma semi (b ∷ rest) =
     (cond (b == semi) (Some (record { semi = semi; ended = true; rest = rest })) None)
 
 unfoldable pub second_in : ℕ → List ℕ → Option Second
-second_in comma text = cond ((told 59 text).0 == comma) None (ended_by comma (told 59 text).0 (told 59 text).1)
+second_in comma text =
+    cond ((told 59 text).0 == comma) None (ended_by comma (told 59 text).0 (told 59 text).1)

@@ -16,7 +16,8 @@ TellsFirst None read = read ≡ None
 
 -- code found parameter 2 where reading does
 abbrev pub TellsSecond : Option Second → Option reading.Second → Type 0
-TellsSecond (Some s) read = read ≡ Some (record { semi = s.semi; ended = s.ended; rest = s.rest.now })
+TellsSecond (Some s) read =
+    read ≡ Some (record { semi = s.semi; ended = s.ended; rest = s.rest.now })
 TellsSecond None read = read ≡ None
 
 -- an empty field has no content

@@ -1,7 +1,8 @@
 -- Entries of the directory (IGES 5.3, 2.2.4.4 (directory entry section): two lines of ten fields of
 -- eight columns, numbered from 1 to 20). Which fields are read and kept, and the ranges, are
 -- solidd's own.
-use Rattle.std.specs.Prelude.{◌≡◌, ◌≢◌, ◌≤◌, ◌⊎◌, ℕ, ◌+◌, ◌-◌, ◌*◌, List, [], ◌∷◌, ◌++◌, length, take, drop}
+use Rattle.std.specs.Prelude.{◌≡◌, ◌≢◌, ◌≤◌, ◌⊎◌, ℕ, ◌+◌, ◌-◌, ◌*◌, List, [], ◌∷◌, ◌++◌, length}
+use Rattle.std.specs.Prelude.{take, drop}
 use Rattle.solid_base.specs.Spelling.{AreBlanks}
 use Rattle.solid_base.specs.Texts.{blank_attributes}
 use Rattle.iges_directory.specs.declared.pairs.Pair.{Pair}
@@ -23,7 +24,14 @@ attributes one two = ((fields 3 6 one ++ fields 8 9 one) ++ fields 2 3 two) ++ f
 
 -- the entry of the null entity (IGES 5.3, type 0); what it gives is solidd's own
 abbrev pub null_pair : Pair
-null_pair = record { kind = 0; first = 0; count = 0; matrix = 0; form = 0; attrs = blank_attributes }
+null_pair = record {
+  kind = 0;
+  first = 0;
+  count = 0;
+  matrix = 0;
+  form = 0;
+  attrs = blank_attributes;
+}
 
 -- columns hold this number, and it is within two bounds
 pub record HoldsWithin (least most n : ℕ) (columns : List ℕ) : Type 0 where
@@ -49,7 +57,8 @@ pub record IsEntity (params : ℕ) (one two : List ℕ) (pair : Pair) : Type 0 w
 
 -- the lines are this entry; of the null entity nothing but the type is read
 abbrev pub IsPair : ℕ → List ℕ → List ℕ → Pair → Type 0
-IsPair params one two pair = (IsOfType 0 one two × (pair ≡ null_pair)) ⊎ IsEntity params one two pair
+IsPair params one two pair =
+    (IsOfType 0 one two × (pair ≡ null_pair)) ⊎ IsEntity params one two pair
 
 -- two lines and two lines are these entries
 abbrev pub ArePairs : ℕ → List (List ℕ) → List Pair → Type 0
@@ -57,7 +66,8 @@ ArePairs params [] [] = Unit {0}
 ArePairs params [] (pair ∷ pairs) = ⊥
 ArePairs params (one ∷ []) pairs = ⊥
 ArePairs params (one ∷ two ∷ lines) [] = ⊥
-ArePairs params (one ∷ two ∷ lines) (pair ∷ pairs) = IsPair params one two pair × ArePairs params lines pairs
+ArePairs params (one ∷ two ∷ lines) (pair ∷ pairs) =
+    IsPair params one two pair × ArePairs params lines pairs
 
 -- how many parameter lines entries have
 abbrev pub text_of : List Pair → ℕ

@@ -1,5 +1,5 @@
--- Delimiters (IGES 5.3, 2.2.3 (free format): what may stand between fields and after the last; bytes 33 to 126
--- and the small letters d and e are solidd's own).
+-- Delimiters (IGES 5.3, 2.2.3 (free format): what may stand between fields and after the last;
+-- bytes 33 to 126 and the small letters d and e are solidd's own).
 use Rattle.std.specs.Prelude.{ℕ, ◌≢◌, Bool, not, ◌&&◌, ◌||◌, ◌==◌, nat_le, IsTrue}
 use Rattle.solid_base.specs.Digits.{is_digit}
 use Rattle.solid_base.specs.Spelling.{is_sign, is_exponent_letter}

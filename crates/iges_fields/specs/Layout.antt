@@ -1,5 +1,6 @@
 -- How tokens lie in the lines of a file that is written: solidd's own.
-use Rattle.std.specs.Prelude.{◌≡◌, ℕ, ◌+◌, ◌-◌, ◌%◌, ◌<◌, ◌^◌, List, [], ◌∷◌, ◌++◌, Bool, true, false, cond, ◌||◌, ◌==◌, nat_le, length, replicate, decimal, Ok}
+use Rattle.std.specs.Prelude.{◌≡◌, ℕ, ◌+◌, ◌-◌, ◌%◌, ◌<◌, ◌^◌, List, [], ◌∷◌, ◌++◌, Bool, true}
+use Rattle.std.specs.Prelude.{false, cond, ◌||◌, ◌==◌, nat_le, length, replicate, decimal, Ok}
 use Rattle.std.specs.List.{AllByRecursion, concat}
 use Rattle.solid_base.specs.Spelling.{IsWhole, IsReal}
 use Rattle.solid_base.specs.Texts.{IsOneLine}
@@ -62,7 +63,12 @@ AreHeld tokens = AllByRecursion IsHeld tokens
 
 -- the field that a token is read as
 abbrev pub field_of : Token → List ℕ → Bool → Reading
-field_of t rest ended = record { kind = kind_of_token t; text = content_of_token t; rest = rest; ended = ended }
+field_of t rest ended = record {
+  kind = kind_of_token t;
+  text = content_of_token t;
+  rest = rest;
+  ended = ended;
+}
 
 -- whether no token stands after
 abbrev pub is_last : List Token → Bool
@@ -79,8 +85,11 @@ AreFields comma semi text (t ∷ ts) =
 -- what reading a text gives, field by field, is these tokens, and the record ends after the last
 abbrev pub Reads : ℕ → ℕ → List ℕ → List Token → Type 0
 Reads comma semi text [] = ⊥
-Reads comma semi text (t ∷ []) = (rest : List ℕ) × (field_at comma semi text ≡ Ok (field_of t rest true))
-Reads comma semi text (t ∷ u ∷ ts) = (rest : List ℕ) × (field_at comma semi text ≡ Ok (field_of t rest false)) × Reads comma semi rest (u ∷ ts)
+Reads comma semi text (t ∷ []) =
+    (rest : List ℕ) × (field_at comma semi text ≡ Ok (field_of t rest true))
+Reads comma semi text (t ∷ u ∷ ts) =
+    (rest : List ℕ) × (field_at comma semi text ≡ Ok (field_of t rest false))
+    × Reads comma semi rest (u ∷ ts)
 
 -- ---- lines
 
@@ -91,7 +100,8 @@ piece d t = spelling_of_token t ++ d ∷ []
 -- the blanks before a piece of so many bytes, where so many bytes are laid before it: none where it
 -- fits on the line or the line is still empty, else as many as fill the line
 abbrev pub gap : ℕ → ℕ → ℕ → ℕ
-gap width used size = cond ((used % width == 0) || nat_le (used % width + size) width) 0 (width - used % width)
+gap width used size =
+    cond ((used % width == 0) || nat_le (used % width + size) width) 0 (width - used % width)
 
 -- a piece, and the blanks before it
 abbrev pub placed : ℕ → ℕ → List ℕ → List ℕ
@@ -102,7 +112,8 @@ unfoldable pub laid : ℕ → ℕ → ℕ → ℕ → List Token → List ℕ
 laid width comma semi used [] = []
 laid width comma semi used (t ∷ ts) =
     placed width used (piece (delimiter comma semi (is_last ts)) t)
-    ++ laid width comma semi (used + length (placed width used (piece (delimiter comma semi (is_last ts)) t))) ts
+    ++ laid width comma semi
+    (used + length (placed width used (piece (delimiter comma semi (is_last ts)) t))) ts
 
 -- lines of this width that hold a text, the last one filled up with blanks
 pub record AreLines (width : ℕ) (text : List ℕ) (lines : List (List ℕ)) : Type 0 where

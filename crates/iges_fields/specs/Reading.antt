@@ -1,9 +1,11 @@
--- The next field of a record's text, found from the left (IGES 5.3, 2.2.3 (free format): the parameter delimiter
--- stands between fields, the record delimiter after the last).
-use Rattle.std.specs.Prelude.{ℕ, ◌+◌, List, [], ◌∷◌, Bool, true, false, cond, not, ◌&&◌, ◌||◌, ◌==◌, nat_lt, length, take, drop, Option, Some, None, Result, Ok, Err}
+-- The next field of a record's text, found from the left (IGES 5.3, 2.2.3 (free format): the
+-- parameter delimiter stands between fields, the record delimiter after the last).
+use Rattle.std.specs.Prelude.{ℕ, ◌+◌, List, [], ◌∷◌, Bool, true, false, cond, not, ◌&&◌, ◌||◌, ◌==◌}
+use Rattle.std.specs.Prelude.{nat_lt, length, take, drop, Option, Some, None, Result, Ok, Err}
 use Rattle.std.specs.List.{prefix_len}
 use Rattle.solid_base.specs.Digits.{number_of}
-use Rattle.solid_base.specs.Spelling.{after_blanks, before_blanks, digit_count, after_digits, class_of, Spelling}
+use Rattle.solid_base.specs.Spelling.{after_blanks, before_blanks, digit_count, after_digits}
+use Rattle.solid_base.specs.Spelling.{class_of, Spelling}
 use Rattle.solid_base.specs.Spelling as spelling
 use Rattle.iges_fields.specs.declared.kinds.FieldKind.{FieldKind}
 use Rattle.iges_fields.specs.declared.kinds.FieldKind.TheVariants as kind
@@ -23,7 +25,8 @@ abbrev pub delimited : ℕ → ℕ → FieldKind → List ℕ → List ℕ → R
 delimited comma semi kind text [] = Err fault.NoEnd
 delimited comma semi kind text (b ∷ rest) =
     cond (b == comma) (Ok (record { kind = kind; text = text; rest = rest; ended = false }))
-    (cond (b == semi) (Ok (record { kind = kind; text = text; rest = rest; ended = true })) (Err fault.BadToken))
+    (cond (b == semi) (Ok (record { kind = kind; text = text; rest = rest; ended = true }))
+    (Err fault.BadToken))
 
 -- a text of so many bytes, whatever they are, in what stands after its H
 abbrev pub text_at : ℕ → ℕ → ℕ → List ℕ → Result Reading FieldFault
@@ -53,8 +56,10 @@ of_kind comma semi (Some kind) text rest = delimited comma semi kind text rest
 -- a field that is no text: it runs to the next delimiter, and the blanks after it do not count
 abbrev pub word_at : ℕ → ℕ → List ℕ → Result Reading FieldFault
 word_at comma semi bytes =
-    of_kind comma semi (kind_of (class_of (before_blanks (take (bytes_before comma semi bytes) bytes))))
-    (before_blanks (take (bytes_before comma semi bytes) bytes)) (drop (bytes_before comma semi bytes) bytes)
+    of_kind comma semi
+    (kind_of (class_of (before_blanks (take (bytes_before comma semi bytes) bytes))))
+    (before_blanks (take (bytes_before comma semi bytes) bytes))
+    (drop (bytes_before comma semi bytes) bytes)
 
 -- whether an H stands after so many digits, of which there is one at least
 abbrev pub is_counted : ℕ → List ℕ → Bool
@@ -66,7 +71,8 @@ is_counted count (b ∷ bs) = not (count == 0) && (b == 72)
 abbrev pub content_at : ℕ → ℕ → List ℕ → Result Reading FieldFault
 content_at comma semi bytes =
     cond (is_counted (digit_count bytes) (after_digits bytes))
-    (text_at comma semi (number_of (take (digit_count bytes) bytes)) (drop (digit_count bytes + 1) bytes))
+    (text_at comma semi (number_of (take (digit_count bytes) bytes))
+    (drop (digit_count bytes + 1) bytes))
     (word_at comma semi bytes)
 
 -- the next field of a text, or the first fault

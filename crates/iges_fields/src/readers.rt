@@ -191,7 +191,12 @@ impl<'a> Model for Fields<'a> {
 
     ghost Value = { Reader };
 
-    ghost view = { λ f. record { rest = f.rest.now; comma = f.comma; semi = f.semi; ended = f.ended } };
+    ghost view = { λ f. record {
+      rest = f.rest.now;
+      comma = f.comma;
+      semi = f.semi;
+      ended = f.ended;
+    } };
 
     ghost invariant = { λ f. AreDelimiters f.comma f.semi };
 }

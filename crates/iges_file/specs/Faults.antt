@@ -1,4 +1,5 @@
--- Faults of files: those of their parts, and two of their own. Their numbers and words are solidd's own.
+-- Faults of files: those of their parts, and two of their own. Their numbers and words are solidd's
+-- own.
 use Rattle.std.specs.Prelude.{ℕ, List, ◌++◌, codes, decimal}
 use Rattle.iges_cards.specs.declared.faults.CardFault.{CardFault}
 use Rattle.iges_cards.specs.declared.faults.CardFault.TheVariants as card
@@ -54,7 +55,8 @@ fault_words (fault.Memory e) = codes ""
 fault_words (fault.Card f) = cards.fault_words f
 fault_words (fault.Global f) = globals.fault_words f
 fault_words (fault.Directory f) = directories.fault_words f
-fault_words (fault.BadRow entity f) = (codes "BadRow " ++ decimal entity) ++ codes " " ++ rows.fault_words f
+fault_words (fault.BadRow entity f) =
+    (codes "BadRow " ++ decimal entity) ++ codes " " ++ rows.fault_words f
 fault_words fault.TooManyLines = codes "TooManyLines"
 fault_words (fault.Graph f) = graphs.fault_words f
 

@@ -79,7 +79,8 @@ pub record HasTooManyLines (bytes : List ℕ) : Type 0 where
   pub entities : AreEntities text.comma text.semi cards.params pairs rows
   pub many : most_lines < lines_of text.comma text.semi rows
 
--- all records are read and take few enough lines, and the references between entities have this first fault
+-- all records are read and take few enough lines, and the references between entities have this
+-- first fault
 pub record HasGraphFault (bytes : List ℕ) (f : GraphFault) : Type 0 where
   pub cards : Cards
   pub text : GlobalText

@@ -1,4 +1,5 @@
-ghost use Rattle.std.specs.Prelude.{◌≡◌, ◌≢◌, ◌<◌, ◌≤◌, ◌+◌, ◌-◌, ◌*◌, ◌^◌, length, take, drop, Ok, Err, IfOk, IfErr, OnOk, true};
+ghost use Rattle.std.specs.Prelude.{◌≡◌, ◌≢◌, ◌<◌, ◌≤◌, ◌+◌, ◌-◌, ◌*◌, ◌^◌, length, take, drop, Ok};
+ghost use Rattle.std.specs.Prelude.{Err, IfOk, IfErr, OnOk, true};
 ghost use Rattle.std.specs.List.{concat};
 ghost use Rattle.solid_base.specs.Texts.{IsOneLine};
 ghost use Rattle.iges_cards.specs.Kept.{AreWide, NoneHasFeed};
@@ -7,7 +8,8 @@ ghost use Rattle.iges_directory.specs.Kept.{IsKept};
 ghost use Rattle.iges_parameters.specs.Faults.{IsOfText};
 ghost use Rattle.iges_parameters.specs.Tables.{is_read};
 ghost use Rattle.iges_parameters.specs.Accepted.{IsAcceptedEntity};
-ghost use Rattle.iges_file.specs.Entities.{kept_entity, known_entity, entity_with, entity_in, HasLines};
+ghost use Rattle.iges_file.specs.Entities.{kept_entity, known_entity, entity_with, entity_in};
+ghost use Rattle.iges_file.specs.Entities.{HasLines};
 
 use iges_directory::Pair;
 use iges_parameters::{RecordText, RowFault, is_read, read_known_row};
@@ -66,7 +68,8 @@ fn read_known_entity(
     requires short { length text.now ≤ 2 ^ 25 }
     requires delimiters { AreDelimiters comma semi }
     ensures found { IfOk result (λ entity. known_entity comma semi pair text.now ≡ Ok entity) }
-    ensures first_fault { IfErr result (λ fault. IsOfText fault → known_entity comma semi pair text.now ≡ Err fault) }
+    ensures first_fault { IfErr result
+        (λ fault. IsOfText fault → known_entity comma semi pair text.now ≡ Err fault) }
     ensures accepted { IfOk result IsAcceptedEntity }
 {
     let record = RecordText {
@@ -98,7 +101,8 @@ fn entity_with(
     requires short { length text.now ≤ 2 ^ 25 }
     requires delimiters { AreDelimiters comma semi }
     ensures found { IfOk result (λ entity. entity_with comma semi pair text.now ≡ Ok entity) }
-    ensures first_fault { IfErr result (λ fault. IsOfText fault → entity_with comma semi pair text.now ≡ Err fault) }
+    ensures first_fault { IfErr result
+        (λ fault. IsOfText fault → entity_with comma semi pair text.now ≡ Err fault) }
     ensures accepted { IfOk result IsAcceptedEntity }
 {
     if is_read(pair.kind, pair.form) {
@@ -108,8 +112,8 @@ fn entity_with(
     }
 }
 
-/// The entity of an entry in a file with these parameter lines. A record of several lines is joined in
-/// the buffer; that of one line stands in the file.
+/// The entity of an entry in a file with these parameter lines. A record of several lines is joined
+/// in the buffer; that of one line stands in the file.
 #[tactic(auto, unfolding(crate::specs::Entities::entity_in))]
 pub fn read_entity(
     alloc: Global,
@@ -125,7 +129,8 @@ pub fn read_entity(
     requires plain { NoneHasFeed params.now }
     requires delimiters { AreDelimiters comma semi }
     ensures found { IfOk result (λ entity. entity_in comma semi params.now pair ≡ Ok entity) }
-    ensures first_fault { IfErr result (λ fault. IsOfText fault → entity_in comma semi params.now pair ≡ Err fault) }
+    ensures first_fault { IfErr result
+        (λ fault. IsOfText fault → entity_in comma semi params.now pair ≡ Err fault) }
     ensures accepted { IfOk result IsAcceptedEntity }
 {
     if pair.kind == 0 {

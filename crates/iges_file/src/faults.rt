@@ -123,8 +123,8 @@ impl FileFault {
         }
     }
 
-    /// The fault as it is printed: the words of the nested fault; of a row's the number of its entity
-    /// first. AllocError when out of memory. Out of memory itself is never printed.
+    /// The fault as it is printed: the words of the nested fault; of a row's the number of its
+    /// entity first. AllocError when out of memory. Out of memory itself is never printed.
     pub fn write_fault(&self, alloc: Global) -> Result<Bytes, AllocError>
         requires { IsOfText self.now }
         ensures { IfOk result (λ words. words ≡ fault_words self.now) }

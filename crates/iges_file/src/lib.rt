@@ -1,6 +1,6 @@
-//! A whole file in the fixed form, read as a model or refused by its first fault.
-//! Contracts see the bytes of a file, and say which model they are read as and where the file ends, or
-//! which fault is the first.
+//! A whole file in the fixed form, read as a model or refused by its first fault. Contracts see the
+//! bytes of a file, and say which model they are read as and where the file ends, or which fault is
+//! the first.
 #![tactic(auto)]
 
 mod entities;

@@ -22,16 +22,16 @@ pub struct ReadFile {
     pub end: usize,
 }
 
-/// Reads a file in the fixed form (IGES 5.3, 2.2), of at most 2^25 bytes: its model, the graph of the
-/// model's entities, and the place after its terminate line, after which nothing is read.
+/// Reads a file in the fixed form (IGES 5.3, 2.2), of at most 2^25 bytes: its model, the graph of
+/// the model's entities, and the place after its terminate line, after which nothing is read.
 ///
-/// The row at place i is that of the entity with the number 2i + 1. Entities of types and forms that
-/// aren't read keep their records.
+/// The row at place i is that of the entity with the number 2i + 1. Entities of types and forms
+/// that aren't read keep their records.
 ///
-/// The first fault is reported: that of the lines; of the global section; of the directory; BadRow, with
-/// the number of the first entity whose record has a fault and that fault; TooManyLines, where the records
-/// would take more than 300,000 lines; that of the references between entities. Memory comes when
-/// out of memory.
+/// The first fault is reported: that of the lines; of the global section; of the directory; BadRow,
+/// with the number of the first entity whose record has a fault and that fault; TooManyLines, where
+/// the records would take more than 300,000 lines; that of the references between entities. Memory
+/// comes when out of memory.
 pub fn read_file(alloc: Global, bytes: &[u8]) -> Result<ReadFile, FileFault>
     requires { length bytes.now ≤ 2 ^ 25 }
     ensures reads { IfOk result (λ read. Reads bytes.now read.model read.end) }

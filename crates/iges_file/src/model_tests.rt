@@ -14,8 +14,8 @@ fn push_line(out: &mut Vec<u8>, text: &[u8], end: &[u8]) -> Result<(), AllocErro
     Ok(())
 }
 
-/// A file of one entity: the start line, the global text, the two directory lines, the record and the
-/// terminate line.
+/// A file of one entity: the start line, the global text, the two directory lines, the record and
+/// the terminate line.
 fn file(alloc: Global, lines: [&[u8]; 6]) -> Result<Vec<u8>, AllocError> {
     let [start, global, first, second, record, terminate] = lines;
     let mut out = Vec::new(alloc);

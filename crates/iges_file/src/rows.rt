@@ -1,4 +1,5 @@
-ghost use Rattle.std.specs.Prelude.{◌≡◌, ℕ, ◌<◌, ◌≤◌, ◌+◌, ◌*◌, ◌^◌, ◌++◌, ◌∷◌, [], length, map, Ok, Err, IfOk, IfErr, OnOk};
+ghost use Rattle.std.specs.Prelude.{◌≡◌, ℕ, ◌<◌, ◌≤◌, ◌+◌, ◌*◌, ◌^◌, ◌++◌, ◌∷◌, [], length, map};
+ghost use Rattle.std.specs.Prelude.{Ok, Err, IfOk, IfErr, OnOk};
 ghost use Rattle.std.specs.List.{AllByRecursion};
 ghost use Rattle.std.specs.Arc.{arc_value};
 ghost use Rattle.iges_cards.specs.Kept.{AreWide, NoneHasFeed};
@@ -32,14 +33,15 @@ fn of_row(entity: u32, fault: RowFault) -> FileFault
 
 /// Shares an entity after the others.
 fn push_entity(alloc: Global, rows: &mut Vec<Arc<Entity>>, entity: Entity) -> Result<(), AllocError>
-    ensures { OnOk result (map arc_value rows.new.items ≡ map arc_value rows.old.items ++ entity ∷ []) }
+    ensures { OnOk result
+        (map arc_value rows.new.items ≡ map arc_value rows.old.items ++ entity ∷ []) }
 {
     rows.push(Arc::new(alloc, entity)?)?;
     Ok(())
 }
 
-/// The entities of a file's entries, with these parameter lines. BadRow where a record has a fault, with
-/// the first entity of which it has.
+/// The entities of a file's entries, with these parameter lines. BadRow where a record has a fault,
+/// with the first entity of which it has.
 pub fn read_rows(
     alloc: Global,
     comma: u8,
@@ -71,7 +73,8 @@ pub fn read_rows(
     Ok(Rows::from_vec(rows))
 }
 
-/// TooManyLines exactly where the records of entities take more than 300,000 lines. It takes no memory.
+/// TooManyLines exactly where the records of entities take more than 300,000 lines. It takes no
+/// memory.
 pub fn check_lines(rows: &Rows) -> Result<(), FileFault>
     requires { AllByRecursion IsAcceptedEntity rows.now }
     ensures few { IfOk result (λ _. (comma semi : ℕ) → lines_of comma semi rows.now ≤ most_lines) }

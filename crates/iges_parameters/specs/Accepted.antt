@@ -25,8 +25,8 @@ most_entities = 100000
 abbrev pub most_lines : ℕ
 most_lines = 300000
 
--- IGES 5.3, 2.2.4 (file structure): sequence numbers of lines have seven digits, so a section has at most so many
--- lines
+-- IGES 5.3, 2.2.4 (file structure): sequence numbers of lines have seven digits, so a section has
+-- at most so many lines
 abbrev pub most_section_lines : ℕ
 most_section_lines = 9999999
 
@@ -36,8 +36,8 @@ lines_of comma semi [] = 0
 lines_of comma semi (e ∷ es) =
     lines_for (length (record_text comma semi e.row e.tail)) + lines_of comma semi es
 
--- IGES 5.3, 2.2.4.3 (global section): the text of a global section as it is written, in lines of 72 columns: the two
--- delimiters as texts of one byte, and the other parameters
+-- IGES 5.3, 2.2.4.3 (global section): the text of a global section as it is written, in lines of 72
+-- columns: the two delimiters as texts of one byte, and the other parameters
 abbrev pub global_text : Model → List ℕ
 global_text model =
     laid 72 model.comma model.semi 0
@@ -61,7 +61,8 @@ pub record IsKeptRecord (kind form : ℕ) (text : List ℕ) : Type 0 where
 
 -- an entity of a model that is served
 pub record IsAcceptedEntity (e : Entity) : Type 0 where
-  -- IGES 5.3, 2.2.4.4 (directory entry section): the twelve directory fields of eight columns that are kept unread
+  -- IGES 5.3, 2.2.4.4 (directory entry section): the twelve directory fields of eight columns that
+  -- are kept unread
   pub attributes : length e.attrs ≡ 96
   pub attributes_in_line : IsOneLine e.attrs
   pub lawful : IsLawfulRow e.row
@@ -80,7 +81,8 @@ pub record IsAcceptedEntity (e : Entity) : Type 0 where
 abbrev pub IsStartLine : List ℕ → Type 0
 IsStartLine line = (length line ≡ 72) × IsOneLine line
 
--- a model that is served: what holds of each model that is read, and what a file is to be written from
+-- a model that is served: what holds of each model that is read, and what a file is to be written
+-- from
 pub record IsAccepted (model : Model) : Type 0 where
   pub few_entities : length model.rows ≤ most_entities
   pub entities : AllByRecursion IsAcceptedEntity model.rows

@@ -21,7 +21,8 @@ fault_number (fault.BadPostfix index) = 10
 abbrev pub IsOfText : RowFault → Type 0
 IsOfText f = fault_number f ≢ 1
 
--- the fault's name and its index, a blank between them. Out of memory is never printed, and so has no words
+-- the fault's name and its index, a blank between them. Out of memory is never printed, and so has
+-- no words
 abbrev pub fault_words : RowFault → List ℕ
 fault_words (fault.Memory e) = codes ""
 fault_words fault.NotRead = codes "NotRead"
@@ -34,8 +35,8 @@ fault_words (fault.BadAxis index) = codes "BadAxis " ++ decimal index
 fault_words fault.BadMatrix = codes "BadMatrix"
 fault_words (fault.BadPostfix index) = codes "BadPostfix " ++ decimal index
 
--- what a function that takes memory returned, seen by view, is what the reading gives; out of memory says
--- nothing of the record
+-- what a function that takes memory returned, seen by view, is what the reading gives; out of
+-- memory says nothing of the record
 abbrev pub GivesOrMemory : {X Y : Type 0} → (X → Y) → Result X RowFault → Result Y RowFault → Type 0
 GivesOrMemory view (Ok x) reading = reading ≡ Ok (view x)
 GivesOrMemory view (Err f) reading = IsOfText f → reading ≡ Err f

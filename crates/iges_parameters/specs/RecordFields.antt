@@ -1,5 +1,7 @@
--- A record's text as the list of its fields (IGES 5.3, 2.2.3 (free format): the parameter delimiter stands between fields, the record delimiter after the last).
-use Rattle.std.specs.Prelude.{ℕ, zero, suc, ◌+◌, List, [], ◌∷◌, length, cond, Option, Some, None, Result, Ok, Err}
+-- A record's text as the list of its fields (IGES 5.3, 2.2.3 (free format): the parameter delimiter
+-- stands between fields, the record delimiter after the last).
+use Rattle.std.specs.Prelude.{ℕ, zero, suc, ◌+◌, List, [], ◌∷◌, length, cond, Option, Some, None}
+use Rattle.std.specs.Prelude.{Result, Ok, Err}
 use Rattle.solid_base.specs.declared.entities.Token.{Token}
 use Rattle.solid_base.specs.declared.entities.Token.TheVariants as token
 use Rattle.iges_fields.specs.declared.kinds.FieldKind.{FieldKind}
@@ -15,7 +17,8 @@ token_of kind.Whole text = token.Whole text
 token_of kind.Real text = token.Real text
 token_of kind.Text text = token.Text text
 
--- a field and those after it; nothing is read after the last field, nor after what is no field, for which None stands
+-- a field and those after it; nothing is read after the last field, nor after what is no field, for
+-- which None stands
 abbrev pub listed : (List ℕ → List (Option Token)) → Result Reading FieldFault → List (Option Token)
 listed more (Err e) = None ∷ []
 listed more (Ok f) = Some (token_of f.kind f.text) ∷ cond f.ended [] (more f.rest)
@@ -23,9 +26,11 @@ listed more (Ok f) = Some (token_of f.kind f.text) ∷ cond f.ended [] (more f.r
 -- the first fields of a text, at most so many
 unfoldable pub fields_within : ℕ → ℕ → ℕ → List ℕ → List (Option Token)
 fields_within zero comma semi text = []
-fields_within (suc most) comma semi text = listed (fields_within most comma semi) (field_at comma semi text)
+fields_within (suc most) comma semi text =
+    listed (fields_within most comma semi) (field_at comma semi text)
 
--- the fields of a record: its tokens up to the record delimiter, or up to the first place where no field stands, and there None. Each field but the last takes a byte at least
+-- the fields of a record: its tokens up to the record delimiter, or up to the first place where no
+-- field stands, and there None. Each field but the last takes a byte at least
 unfoldable pub fields_of : ℕ → ℕ → List ℕ → List (Option Token)
 fields_of comma semi text = fields_within (length text + 1) comma semi text
 

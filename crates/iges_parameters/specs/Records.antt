@@ -1,5 +1,7 @@
--- A whole record: the type's number, the defined parameters, and the fields after them (IGES 5.3, 4).
-use Rattle.std.specs.Prelude.{◌≡◌, ℕ, ◌+◌, List, [], ◌∷◌, ◌++◌, cond, ◌==◌, Option, Some, None, Result, Ok, Err, pos, unsigned_abs}
+-- A whole record: the type's number, the defined parameters, and the fields after them (IGES 5.3,
+-- 4).
+use Rattle.std.specs.Prelude.{◌≡◌, ℕ, ◌+◌, List, [], ◌∷◌, ◌++◌, cond, ◌==◌, Option, Some, None}
+use Rattle.std.specs.Prelude.{Result, Ok, Err, pos, unsigned_abs}
 use Rattle.std.specs.Ordering.{int_eq}
 use Rattle.solid_base.specs.declared.entities.Token.{Token}
 use Rattle.solid_base.specs.declared.entities.Token.TheVariants as token
@@ -19,7 +21,8 @@ use Rattle.iges_parameters.specs.Lists.{tree_at, assembly_at}
 -- field 0 is the type's number; a number with a plus or with zeros before it is the same number
 unfoldable pub type_of : ℕ → Token → Result ℕ RowFault
 type_of kind token.Empty = Err (fault.Missing 0)
-type_of kind (token.Whole text) = cond (int_eq (integer_of text) (pos kind)) (Ok kind) (Err (fault.WrongKind 0))
+type_of kind (token.Whole text) =
+    cond (int_eq (integer_of text) (pos kind)) (Ok kind) (Err (fault.WrongKind 0))
 type_of kind (token.Real text) = Err (fault.WrongKind 0)
 type_of kind (token.Text text) = Err (fault.WrongKind 0)
 
@@ -33,10 +36,14 @@ abbrev pub prim_row : ℕ → ℕ → Place → Result (Row × Place) RowFault
 prim_row kind matrix p = prim_at kind p >>= λ q. Ok (row.Prim q.0 matrix, q.1)
 
 unfoldable pub matrix_row : ℕ → ℕ → Place → Result (Row × Place) RowFault
-matrix_row form matrix p = numbers_by matrix_rules p >>= λ ns. checked_affine (affine_of ns.0) >>= λ a. Ok (row.Matrix form a matrix, ns.1)
+matrix_row form matrix p =
+    numbers_by matrix_rules p >>= λ ns. checked_affine (affine_of ns.0) >>= λ a.
+    Ok (row.Matrix form a matrix, ns.1)
 
 unfoldable pub instance_row : ℕ → Place → Result (Row × Place) RowFault
-instance_row matrix p = numbers_by instance_rules p >>= λ ns. Ok (row.Instance (unsigned_abs (parameter ns.0 1)) matrix, ns.1)
+instance_row matrix p =
+    numbers_by instance_rules p >>= λ ns.
+    Ok (row.Instance (unsigned_abs (parameter ns.0 1)) matrix, ns.1)
 
 unfoldable pub tree_row : ℕ → Place → Result (Row × Place) RowFault
 tree_row matrix p = tree_at p >>= λ items. Ok (row.Tree items.0 matrix, items.1)
@@ -54,11 +61,15 @@ row_at kind form matrix p =
 
 -- ---- the fields after the defined parameters
 
--- what a step after the parameters gave: nothing where the record has ended, a token, or where no field stands
+-- what a step after the parameters gave: nothing where the record has ended, a token, or where no
+-- field stands
 abbrev pub IsMore : Place → Place → Result (Option Field) RowFault → Type 0
 IsMore old new (Ok None) = old.fields ≡ []
-IsMore old new (Ok (Some field)) = (old.fields ≡ Some (token_of field.kind field.text.now) ∷ new.fields) × (new.index ≡ old.index + 1)
-IsMore old new (Err f) = (rest : List (Option Token)) × (old.fields ≡ None ∷ rest) × (f ≡ fault.Token old.index)
+IsMore old new (Ok (Some field)) =
+    (old.fields ≡ Some (token_of field.kind field.text.now) ∷ new.fields)
+    × (new.index ≡ old.index + 1)
+IsMore old new (Err f) =
+    (rest : List (Option Token)) × (old.fields ≡ None ∷ rest) × (f ≡ fault.Token old.index)
 
 -- the fields from this index on, after those before, up to the end of the record
 unfoldable pub tail_from : List Token → ℕ → List (Option Token) → Result (List Token) RowFault
@@ -70,11 +81,16 @@ tail_from before index (Some t ∷ rest) = tail_from (before ++ t ∷ []) (index
 abbrev pub with_tail : Row × Place → Result (Row × List Token) RowFault
 with_tail r = tail_from [] r.1.index r.1.fields >>= λ tail. Ok (r.0, tail)
 
--- the row of a record of this type, form and matrix that has these fields, and the fields after its parameters; or the first fault
+-- the row of a record of this type, form and matrix that has these fields, and the fields after its
+-- parameters; or the first fault
 unfoldable pub record_of : ℕ → ℕ → ℕ → List (Option Token) → Result (Row × List Token) RowFault
 record_of kind form matrix fields =
-    cond (is_read kind form) (type_at kind (record { index = 0; fields = fields }) >>= λ p. row_at kind form matrix p >>= with_tail) (Err fault.NotRead)
+    cond (is_read kind form)
+    (type_at kind (record { index = 0; fields = fields }) >>= λ p. row_at kind form matrix p
+    >>= with_tail) (Err fault.NotRead)
 
--- the row of an entity's record in a file with these delimiters, and the fields after its parameters; or the first fault
+-- the row of an entity's record in a file with these delimiters, and the fields after its
+-- parameters; or the first fault
 abbrev pub record_in : ℕ → ℕ → RowText → Result (Row × List Token) RowFault
-record_in comma semi source = record_of source.kind source.form source.matrix (fields_of comma semi source.text)
+record_in comma semi source =
+    record_of source.kind source.form source.matrix (fields_of comma semi source.text)

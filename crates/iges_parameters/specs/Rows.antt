@@ -1,5 +1,7 @@
--- Rows of a fixed number of parameters: which parameter is what (IGES 5.3, 4: parameter data), and the bounds of axes and matrices, which are solidd's own.
-use Rattle.std.specs.Prelude.{ℕ, ◌+◌, ◌^◌, List, Bool, cond, ◌&&◌, ◌==◌, nat_le, Result, Ok, Err, ℤ, pos, ◌-ℤ◌, unsigned_abs}
+-- Rows of a fixed number of parameters: which parameter is what (IGES 5.3, 4: parameter data), and
+-- the bounds of axes and matrices, which are solidd's own.
+use Rattle.std.specs.Prelude.{ℕ, ◌+◌, ◌^◌, List, Bool, cond, ◌&&◌, ◌==◌, nat_le, Result, Ok, Err, ℤ}
+use Rattle.std.specs.Prelude.{pos, ◌-ℤ◌, unsigned_abs}
 use Rattle.solid_base.specs.declared.geometry.Vec3.{Vec3}
 use Rattle.solid_base.specs.declared.geometry.Affine.{Affine}
 use Rattle.solid_base.specs.declared.solids.Primitive.{Primitive}
@@ -10,25 +12,32 @@ use Rattle.iges_parameters.specs.declared.faults.RowFault.TheVariants as fault
 use Rattle.iges_parameters.specs.declared.tables.Rule.{Rule}
 use Rattle.solid_base.specs.Outcomes.{◌>>=◌}
 use Rattle.iges_parameters.specs.Rules.{Place, parameter, numbers_by}
-use Rattle.iges_parameters.specs.Tables.{block_rules, wedge_rules, cylinder_rules, cone_rules, sphere_rules, torus_rules, ellipsoid_rules}
+use Rattle.iges_parameters.specs.Tables.{block_rules, wedge_rules, cylinder_rules, cone_rules}
+use Rattle.iges_parameters.specs.Tables.{sphere_rules, torus_rules, ellipsoid_rules}
 
 -- ---- rows by their parameters; indexes count from 1
 
 -- the three parameters from this index on
 abbrev pub point_at : List ℤ → ℕ → Vec3
-point_at ns index = record { x = parameter ns index; y = parameter ns (index + 1); z = parameter ns (index + 2) }
+point_at ns index = record {
+  x = parameter ns index;
+  y = parameter ns (index + 1);
+  z = parameter ns (index + 2);
+}
 
 unfoldable pub block_of : List ℤ → Primitive
 block_of ns = prim.Block (point_at ns 1) (point_at ns 4) (point_at ns 7) (point_at ns 10)
 
 unfoldable pub wedge_of : List ℤ → Primitive
-wedge_of ns = prim.Wedge (point_at ns 1) (parameter ns 4) (point_at ns 5) (point_at ns 8) (point_at ns 11)
+wedge_of ns =
+    prim.Wedge (point_at ns 1) (parameter ns 4) (point_at ns 5) (point_at ns 8) (point_at ns 11)
 
 unfoldable pub cylinder_of : List ℤ → Primitive
 cylinder_of ns = prim.Cylinder (parameter ns 1) (parameter ns 2) (point_at ns 3) (point_at ns 6)
 
 unfoldable pub cone_of : List ℤ → Primitive
-cone_of ns = prim.Cone (parameter ns 1) (parameter ns 2) (parameter ns 3) (point_at ns 4) (point_at ns 7)
+cone_of ns =
+    prim.Cone (parameter ns 1) (parameter ns 2) (parameter ns 3) (point_at ns 4) (point_at ns 7)
 
 unfoldable pub sphere_of : List ℤ → Primitive
 sphere_of ns = prim.Sphere (parameter ns 1) (point_at ns 2)
@@ -68,7 +77,10 @@ with_axis p index w = cond (is_unit w) (Ok p) (Err (fault.BadAxis index))
 
 -- a primitive whose local X axis begins at this index, and its local Z axis three after
 abbrev pub with_axes : Primitive → ℕ → Vec3 → Vec3 → Result Primitive RowFault
-with_axes p index u w = cond (is_unit u) (cond (is_unit w && is_right_angle u w) (Ok p) (Err (fault.BadAxis (index + 3)))) (Err (fault.BadAxis index))
+with_axes p index u w =
+    cond (is_unit u)
+    (cond (is_unit w && is_right_angle u w) (Ok p) (Err (fault.BadAxis (index + 3))))
+    (Err (fault.BadAxis index))
 
 -- a primitive whose axes are in their bounds, or the first that isn't
 unfoldable pub checked_prim : Primitive → Result Primitive RowFault
@@ -82,11 +94,14 @@ checked_prim (prim.Ellipsoid size centre u w) = with_axes (prim.Ellipsoid size c
 
 -- three directions have unit length and are at right angles
 abbrev pub are_orthonormal : Vec3 → Vec3 → Vec3 → Bool
-are_orthonormal a b c = (is_unit a && is_unit b && is_unit c) && (is_right_angle a b && is_right_angle a c && is_right_angle b c)
+are_orthonormal a b c =
+    (is_unit a && is_unit b && is_unit c)
+    && (is_right_angle a b && is_right_angle a c && is_right_angle b c)
 
 -- a matrix whose columns are in their bounds
 unfoldable pub checked_affine : Affine → Result Affine RowFault
-checked_affine a = cond (are_orthonormal (column1 a) (column2 a) (column3 a)) (Ok a) (Err fault.BadMatrix)
+checked_affine a =
+    cond (are_orthonormal (column1 a) (column2 a) (column3 a)) (Ok a) (Err fault.BadMatrix)
 
 -- ---- primitives
 

@@ -1,5 +1,9 @@
--- The rules of parameters, and how one parameter is read by its rule. Which values are wanted is IGES 5.3, 4 (the types' parameter data). That a record may end early, that a whole number may stand for a real, the bounds, and the order of the checks are solidd's own.
-use Rattle.std.specs.Prelude.{◌≡◌, ℕ, ◌+◌, ◌-◌, ◌≤◌, length, List, [], ◌∷◌, ◌++◌, Bool, true, cond, ◌&&◌, nat_le, nat_lt, get_or, Option, Some, None, Result, Ok, Err, ℤ, pos, negsuc, int_lt, int_le, unsigned_abs}
+-- The rules of parameters, and how one parameter is read by its rule. Which values are wanted is
+-- IGES 5.3, 4 (the types' parameter data). That a record may end early, that a whole number may
+-- stand for a real, the bounds, and the order of the checks are solidd's own.
+use Rattle.std.specs.Prelude.{◌≡◌, ℕ, ◌+◌, ◌-◌, ◌≤◌, length, List, [], ◌∷◌, ◌++◌, Bool, true, cond}
+use Rattle.std.specs.Prelude.{◌&&◌, nat_le, nat_lt, get_or, Option, Some, None, Result, Ok, Err, ℤ}
+use Rattle.std.specs.Prelude.{pos, negsuc, int_lt, int_le, unsigned_abs}
 use Rattle.solid_base.specs.Range.{far}
 use Rattle.solid_base.specs.Ranges.{most_whole}
 use Rattle.solid_base.specs.Digits.{number_of}
@@ -31,7 +35,8 @@ Moves count old new = (new.index ≡ old.index + count) × (length new.fields �
 abbrev pub MovesUpTo : ℕ → Place → Place → Type 0
 MovesUpTo most old new = (new.index ≤ old.index + most) × (length new.fields ≤ length old.fields)
 
--- the field with this index, and the place after it; after the last field of a record each field is empty
+-- the field with this index, and the place after it; after the last field of a record each field is
+-- empty
 abbrev pub next_field : ℕ → List (Option Token) → Result (Token × Place) RowFault
 next_field index [] = Ok (token.Empty, record { index = index + 1; fields = [] })
 next_field index (None ∷ rest) = Err (fault.Token index)
@@ -125,12 +130,15 @@ value_of rule index before (token.Text text) = given rule index before (token.Te
 
 -- the next parameter by a rule, where these stand before it, and the place after it
 unfoldable pub parameter_at : Rule → List ℤ → Place → Result (ℤ × Place) RowFault
-parameter_at rule before p = token_at p >>= λ t. value_of rule p.index before t.0 >>= λ n. Ok (n, t.1)
+parameter_at rule before p =
+    token_at p >>= λ t. value_of rule p.index before t.0 >>= λ n. Ok (n, t.1)
 
--- parameters by their rules, from left to right, after those before, and the place after them; or the first fault
+-- parameters by their rules, from left to right, after those before, and the place after them; or
+-- the first fault
 unfoldable pub numbers_from : List Rule → List ℤ → Place → Result (List ℤ × Place) RowFault
 numbers_from [] before p = Ok (before, p)
-numbers_from (rule ∷ rules) before p = parameter_at rule before p >>= λ n. numbers_from rules (before ++ n.0 ∷ []) n.1
+numbers_from (rule ∷ rules) before p =
+    parameter_at rule before p >>= λ n. numbers_from rules (before ++ n.0 ∷ []) n.1
 
 -- the parameters of a table
 abbrev pub numbers_by : List Rule → Place → Result (List ℤ × Place) RowFault

@@ -1,5 +1,7 @@
--- The parameters of each type, in the order of their indexes (IGES 5.3, 4: parameter data). Which of them must be given in types 124, 152 and 184, and the list of type 184, are solidd's own.
-use Rattle.std.specs.Prelude.{ℕ, ◌^◌, List, [], ◌∷◌, ◌++◌, Bool, cond, ◌&&◌, ◌==◌, nat_le, Some, None, pos, replicate}
+-- The parameters of each type, in the order of their indexes (IGES 5.3, 4: parameter data). Which
+-- of them must be given in types 124, 152 and 184, and the list of type 184, are solidd's own.
+use Rattle.std.specs.Prelude.{ℕ, ◌^◌, List, [], ◌∷◌, ◌++◌, Bool, cond, ◌&&◌, ◌==◌, nat_le, Some}
+use Rattle.std.specs.Prelude.{None, pos, replicate}
 use Rattle.std.specs.List.{list_any}
 use Rattle.iges_parameters.specs.declared.tables.Rule.{Rule}
 use Rattle.iges_parameters.specs.declared.tables.Values.TheVariants as values
@@ -54,15 +56,20 @@ block_rules = size ∷ size ∷ size ∷ (point ++ x_axis ++ z_axis)
 
 -- IGES 5.3, type 152, right angular wedge: LX, LY, LZ, LTX below LX (index 1), then as a block
 unfoldable pub wedge_rules : List Rule
-wedge_rules = size ∷ size ∷ size ∷ record { default = None; values = values.Below 1 } ∷ (point ++ x_axis ++ z_axis)
+wedge_rules =
+    size ∷ size ∷ size ∷ record { default = None; values = values.Below 1 }
+    ∷ (point ++ x_axis ++ z_axis)
 
--- IGES 5.3, type 154, right circular cylinder: height, radius, the centre of the first face, the axis
+-- IGES 5.3, type 154, right circular cylinder: height, radius, the centre of the first face, the
+-- axis
 unfoldable pub cylinder_rules : List Rule
 cylinder_rules = size ∷ size ∷ (point ++ z_axis)
 
--- IGES 5.3, type 156, right circular cone frustum: height, R1, R2 below R1 (index 2) and 0 where it is empty, the centre of the larger face, the axis
+-- IGES 5.3, type 156, right circular cone frustum: height, R1, R2 below R1 (index 2) and 0 where it
+-- is empty, the centre of the larger face, the axis
 unfoldable pub cone_rules : List Rule
-cone_rules = size ∷ size ∷ record { default = Some (pos 0); values = values.Below 2 } ∷ (point ++ z_axis)
+cone_rules =
+    size ∷ size ∷ record { default = Some (pos 0); values = values.Below 2 } ∷ (point ++ z_axis)
 
 -- IGES 5.3, type 158, sphere: radius, centre
 unfoldable pub sphere_rules : List Rule
@@ -90,10 +97,13 @@ list_rules = count ∷ []
 
 -- ---- what is read
 
--- the types of which form 0 is read: the primitives, the Boolean tree, the solid assembly and the solid instance
+-- the types of which form 0 is read: the primitives, the Boolean tree, the solid assembly and the
+-- solid instance
 abbrev pub solid_types : List ℕ
 solid_types = 150 ∷ 152 ∷ 154 ∷ 156 ∷ 158 ∷ 160 ∷ 168 ∷ 180 ∷ 184 ∷ 430 ∷ []
 
--- the types and forms that are read: form 0 of these, and forms 0 and 1 of the transformation matrix
+-- the types and forms that are read: form 0 of these, and forms 0 and 1 of the transformation
+-- matrix
 unfoldable pub is_read : ℕ → ℕ → Bool
-is_read kind form = cond (kind == 124) (nat_le form 1) ((form == 0) && list_any (λ k. k == kind) solid_types)
+is_read kind form =
+    cond (kind == 124) (nat_le form 1) ((form == 0) && list_any (λ k. k == kind) solid_types)

@@ -1,5 +1,7 @@
--- The record of a row as it is written: solidd's own form. Each parameter is written, those with a default too.
-use Rattle.std.specs.Prelude.{ℕ, ◌+◌, ◌/◌, List, [], ◌∷◌, ◌++◌, length, map, decimal, ℤ, pos, negsuc, neg_ℤ}
+-- The record of a row as it is written: solidd's own form. Each parameter is written, those with a
+-- default too.
+use Rattle.std.specs.Prelude.{ℕ, ◌+◌, ◌/◌, List, [], ◌∷◌, ◌++◌, length, map, decimal, ℤ, pos}
+use Rattle.std.specs.Prelude.{negsuc, neg_ℤ}
 use Rattle.solid_base.specs.declared.entities.Token.{Token}
 use Rattle.solid_base.specs.declared.entities.Token.TheVariants as token
 use Rattle.solid_base.specs.declared.geometry.Vec3.{Vec3}
@@ -15,7 +17,9 @@ use Rattle.iges_fields.specs.Layout.{laid}
 use Rattle.iges_parameters.specs.declared.tables.Rule.{Rule}
 use Rattle.iges_parameters.specs.declared.tables.Values.{Values}
 use Rattle.iges_parameters.specs.declared.tables.Values.TheVariants as values
-use Rattle.iges_parameters.specs.Tables.{block_rules, wedge_rules, cylinder_rules, cone_rules, sphere_rules, torus_rules, ellipsoid_rules, matrix_rules, instance_rules}
+use Rattle.iges_parameters.specs.Tables.{block_rules, wedge_rules, cylinder_rules, cone_rules}
+use Rattle.iges_parameters.specs.Tables.{sphere_rules, torus_rules, ellipsoid_rules, matrix_rules}
+use Rattle.iges_parameters.specs.Tables.{instance_rules}
 
 -- ---- numbers
 
@@ -71,17 +75,22 @@ rules_of_prim (prim.Torus r1 r2 centre w) = torus_rules
 rules_of_prim (prim.Ellipsoid size centre u w) = ellipsoid_rules
 
 abbrev pub numbers_of_prim : Primitive → List ℤ
-numbers_of_prim (prim.Block size corner u w) = coordinates size ++ coordinates corner ++ coordinates u ++ coordinates w
-numbers_of_prim (prim.Wedge size ltx corner u w) = coordinates size ++ ltx ∷ (coordinates corner ++ coordinates u ++ coordinates w)
+numbers_of_prim (prim.Block size corner u w) =
+    coordinates size ++ coordinates corner ++ coordinates u ++ coordinates w
+numbers_of_prim (prim.Wedge size ltx corner u w) =
+    coordinates size ++ ltx ∷ (coordinates corner ++ coordinates u ++ coordinates w)
 numbers_of_prim (prim.Cylinder h r foot w) = h ∷ r ∷ (coordinates foot ++ coordinates w)
 numbers_of_prim (prim.Cone h r1 r2 foot w) = h ∷ r1 ∷ r2 ∷ (coordinates foot ++ coordinates w)
 numbers_of_prim (prim.Sphere r centre) = r ∷ coordinates centre
 numbers_of_prim (prim.Torus r1 r2 centre w) = r1 ∷ r2 ∷ (coordinates centre ++ coordinates w)
-numbers_of_prim (prim.Ellipsoid size centre u w) = coordinates size ++ coordinates centre ++ coordinates u ++ coordinates w
+numbers_of_prim (prim.Ellipsoid size centre u w) =
+    coordinates size ++ coordinates centre ++ coordinates u ++ coordinates w
 
 -- R11 R12 R13 T1 R21 R22 R23 T2 R31 R32 R33 T3
 abbrev pub numbers_of_affine : Affine → List ℤ
-numbers_of_affine a = coordinates a.row1 ++ a.shift.x ∷ (coordinates a.row2 ++ a.shift.y ∷ (coordinates a.row3 ++ a.shift.z ∷ []))
+numbers_of_affine a =
+    coordinates a.row1 ++ a.shift.x
+    ∷ (coordinates a.row2 ++ a.shift.y ∷ (coordinates a.row3 ++ a.shift.z ∷ []))
 
 -- an operand is its entity's number below 0; 1 is the union, 2 the intersection, 3 the difference
 abbrev pub number_of_item : Item → ℤ
@@ -96,11 +105,17 @@ number_of_item item.Less = pos 3
 unfoldable pub parameters_of : Row → List Token
 parameters_of row.Null = whole (pos 0) ∷ []
 parameters_of (row.Opaque kind form matrix text) = []
-parameters_of (row.Matrix form affine next) = whole (pos 124) ∷ tokens_by matrix_rules (numbers_of_affine affine)
-parameters_of (row.Prim p matrix) = whole (pos (type_of_prim p)) ∷ tokens_by (rules_of_prim p) (numbers_of_prim p)
-parameters_of (row.Tree items matrix) = whole (pos 180) ∷ whole (pos (length items)) ∷ map (λ i. whole (number_of_item i)) items
-parameters_of (row.Assembly items matrix) = whole (pos 184) ∷ whole (pos (length items)) ∷ (map (λ p. whole (pos p.item)) items ++ map (λ p. whole (pos p.matrix)) items)
-parameters_of (row.Instance child matrix) = whole (pos 430) ∷ tokens_by instance_rules (pos child ∷ [])
+parameters_of (row.Matrix form affine next) =
+    whole (pos 124) ∷ tokens_by matrix_rules (numbers_of_affine affine)
+parameters_of (row.Prim p matrix) =
+    whole (pos (type_of_prim p)) ∷ tokens_by (rules_of_prim p) (numbers_of_prim p)
+parameters_of (row.Tree items matrix) =
+    whole (pos 180) ∷ whole (pos (length items)) ∷ map (λ i. whole (number_of_item i)) items
+parameters_of (row.Assembly items matrix) =
+    whole (pos 184) ∷ whole (pos (length items))
+    ∷ (map (λ p. whole (pos p.item)) items ++ map (λ p. whole (pos p.matrix)) items)
+parameters_of (row.Instance child matrix) =
+    whole (pos 430) ∷ tokens_by instance_rules (pos child ∷ [])
 
 -- the tokens of a record: the parameters, and the fields that stand after them
 abbrev pub tokens_of : Row → List Token → List Token
@@ -115,11 +130,16 @@ kept_text (b ∷ text) = b ∷ text
 unfoldable pub record_text : ℕ → ℕ → Row → List Token → List ℕ
 record_text comma semi row.Null tail = laid 64 comma semi 0 (tokens_of row.Null tail)
 record_text comma semi (row.Opaque kind form matrix text) tail = kept_text text
-record_text comma semi (row.Matrix form affine next) tail = laid 64 comma semi 0 (tokens_of (row.Matrix form affine next) tail)
-record_text comma semi (row.Prim p matrix) tail = laid 64 comma semi 0 (tokens_of (row.Prim p matrix) tail)
-record_text comma semi (row.Tree items matrix) tail = laid 64 comma semi 0 (tokens_of (row.Tree items matrix) tail)
-record_text comma semi (row.Assembly items matrix) tail = laid 64 comma semi 0 (tokens_of (row.Assembly items matrix) tail)
-record_text comma semi (row.Instance child matrix) tail = laid 64 comma semi 0 (tokens_of (row.Instance child matrix) tail)
+record_text comma semi (row.Matrix form affine next) tail =
+    laid 64 comma semi 0 (tokens_of (row.Matrix form affine next) tail)
+record_text comma semi (row.Prim p matrix) tail =
+    laid 64 comma semi 0 (tokens_of (row.Prim p matrix) tail)
+record_text comma semi (row.Tree items matrix) tail =
+    laid 64 comma semi 0 (tokens_of (row.Tree items matrix) tail)
+record_text comma semi (row.Assembly items matrix) tail =
+    laid 64 comma semi 0 (tokens_of (row.Assembly items matrix) tail)
+record_text comma semi (row.Instance child matrix) tail =
+    laid 64 comma semi 0 (tokens_of (row.Instance child matrix) tail)
 
 -- how many lines of 64 columns hold so many bytes
 abbrev pub lines_for : ℕ → ℕ

@@ -12,5 +12,6 @@ pub mod written_rows;
 #[cfg(test)]
 mod written_tests;
 
-/// The columns of a parameter line that a record stands in: 1 to 64 (IGES 5.3, 2.2.4.5 (parameter data section)).
+/// The columns of a parameter line that a record stands in: 1 to 64 (IGES 5.3, 2.2.4.5 (parameter
+/// data section)).
 pub const RECORD_COLUMNS: usize = 64;

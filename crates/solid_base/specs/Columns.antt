@@ -1,5 +1,7 @@
--- IGES 5.3, 2.2.4 (file structure): unsigned numbers in fixed columns. That blanks may stand after them, and zeros in front, is solidd's own.
-use Rattle.std.specs.Prelude.{◌≡◌, ◌<◌, ℕ, List, ◌++◌, ◌&&◌, ◌==◌, cond, not, length, take, drop, Option, None, Some}
+-- IGES 5.3, 2.2.4 (file structure): unsigned numbers in fixed columns. That blanks may stand after
+-- them, and zeros in front, is solidd's own.
+use Rattle.std.specs.Prelude.{◌≡◌, ◌<◌, ℕ, List, ◌++◌, ◌&&◌, ◌==◌, cond, not, length, take, drop}
+use Rattle.std.specs.Prelude.{Option, None, Some}
 use Rattle.std.specs.List.{list_all}
 use Rattle.solid_base.specs.Digits.{AreDigits, number_of}
 use Rattle.solid_base.specs.Spelling.{is_blank, AreBlanks, digit_count}
@@ -16,7 +18,9 @@ pub record AreDigitsOf (n : ℕ) (columns : List ℕ) : Type 0 where
 
 -- the number that so many digits in front spell, where blanks alone stand after them
 abbrev pub number_before : ℕ → List ℕ → Option ℕ
-number_before count text = cond (not (count == 0) && list_all is_blank (drop count text)) (Some (number_of (take count text))) None
+number_before count text =
+    cond (not (count == 0) && list_all is_blank (drop count text))
+    (Some (number_of (take count text))) None
 
 -- the number that columns hold
 unfoldable pub digits_in : List ℕ → Option ℕ

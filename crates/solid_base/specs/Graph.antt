@@ -6,7 +6,8 @@ use Rattle.solid_base.specs.declared.references.Reference.{Reference}
 use Rattle.solid_base.specs.declared.references.Reference.TheVariants as reference
 use Rattle.solid_base.specs.declared.solids.Row.{Row}
 use Rattle.solid_base.specs.declared.solids.Row.TheVariants as row
-use Rattle.solid_base.specs.References.{target, operands_of, items_of, references_of, references, row_at, Refers, Reaches}
+use Rattle.solid_base.specs.References.{target, operands_of, items_of, references_of, references}
+use Rattle.solid_base.specs.References.{row_at, Refers, Reaches}
 
 -- ---- single references
 
@@ -46,10 +47,12 @@ abbrev pub greatest : (ℕ → ℕ) → List ℕ → ℕ
 greatest f [] = 0
 greatest f (n ∷ ns) = max (f n) (greatest f ns)
 
--- the depth of an entity: 1 where it names none, else 1 more than the greatest depth of those that it names. At most so many levels are counted
+-- the depth of an entity: 1 where it names none, else 1 more than the greatest depth of those that
+-- it names. At most so many levels are counted
 unfoldable pub depth_within : ℕ → List Entity → ℕ → ℕ
 depth_within zero rows e = 0
-depth_within (suc levels) rows e = suc (greatest (depth_within levels rows) (references (row_at rows e)))
+depth_within (suc levels) rows e =
+    suc (greatest (depth_within levels rows) (references (row_at rows e)))
 
 -- the most levels that a model may have
 abbrev pub most_levels : ℕ
@@ -59,7 +62,8 @@ most_levels = 64
 unfoldable pub depth_of : List Entity → ℕ → ℕ
 depth_of rows e = depth_within (suc most_levels) rows e
 
--- the weight of a row, from the weights of those that it names: how many evaluations of primitives it takes. What isn't read counts as one
+-- the weight of a row, from the weights of those that it names: how many evaluations of primitives
+-- it takes. What isn't read counts as one
 abbrev pub row_weight : (ℕ → ℕ) → Row → ℕ
 row_weight weight row.Null = 0
 row_weight weight (row.Opaque kind form matrix text) = 1
@@ -88,7 +92,8 @@ most_weight = 2 ^ 20
 -- the references of the entities of a model obey the rules
 pub record AreSound (rows : List Entity) : Type 0 where
   pub present : (e : ℕ) → AllByRecursion (λ r. ¬ IsDangling rows r) (references_of (row_at rows e))
-  pub directed : (e : ℕ) → AllByRecursion (λ r. ¬ IsMisdirected rows r) (references_of (row_at rows e))
+  pub directed : (e : ℕ)
+      → AllByRecursion (λ r. ¬ IsMisdirected rows r) (references_of (row_at rows e))
   pub acyclic : (e : ℕ) → ¬ ReachesCycle rows e
   pub shallow : (e : ℕ) → depth_of rows e ≤ most_levels
   pub light : (e : ℕ) → weight_of rows e ≤ most_weight

@@ -17,4 +17,6 @@ far = 10 ^ 17
 
 -- a box whose corners are in order in each coordinate and within 100,000 units of the origin
 abbrev pub IsCube : Cube → Type 0
-IsCube c = IsPointWithin far c.lo × IsPointWithin far c.hi × (c.lo.x ≤ℤ c.hi.x) × (c.lo.y ≤ℤ c.hi.y) × (c.lo.z ≤ℤ c.hi.z)
+IsCube c =
+    IsPointWithin far c.lo × IsPointWithin far c.hi × (c.lo.x ≤ℤ c.hi.x) × (c.lo.y ≤ℤ c.hi.y)
+    × (c.lo.z ≤ℤ c.hi.z)

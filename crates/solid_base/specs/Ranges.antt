@@ -1,4 +1,6 @@
--- The ranges of rows: what the parameters of a primitive, a matrix, a tree, an assembly and an instance may be. The bounds of lengths, coordinates and numbers, and how far axes may be from unit length and from a right angle, are solidd's own.
+-- The ranges of rows: what the parameters of a primitive, a matrix, a tree, an assembly and an
+-- instance may be. The bounds of lengths, coordinates and numbers, and how far axes may be from
+-- unit length and from a right angle, are solidd's own.
 use Rattle.std.specs.Prelude.{ℕ, ◌<◌, ◌≤◌, ◌^◌, ℤ, pos, ◌<ℤ◌, ◌≤ℤ◌, ◌+ℤ◌, ◌-ℤ◌, ◌*ℤ◌, length}
 use Rattle.std.specs.List.{AllByRecursion}
 use Rattle.solid_base.specs.declared.geometry.Vec3.{Vec3}
@@ -54,17 +56,21 @@ abbrev pub IsLawfulPrim : Primitive → Type 0
 -- IGES 5.3, type 150: three lengths, the corner, the local axes
 IsLawfulPrim (prim.Block size corner u w) = AreSizes size × IsPointWithin far corner × AreAxes u w
 -- IGES 5.3, type 152: LTX is at least 0 and less than LX
-IsLawfulPrim (prim.Wedge size ltx corner u w) = AreSizes size × (pos 0 ≤ℤ ltx) × (ltx <ℤ size.x) × IsPointWithin far corner × AreAxes u w
+IsLawfulPrim (prim.Wedge size ltx corner u w) =
+    AreSizes size × (pos 0 ≤ℤ ltx) × (ltx <ℤ size.x) × IsPointWithin far corner × AreAxes u w
 -- IGES 5.3, type 154: height, radius, the centre of the first face, the axis
 IsLawfulPrim (prim.Cylinder h r foot w) = IsSize h × IsSize r × IsPointWithin far foot × IsAxis w
 -- IGES 5.3, type 156: the smaller radius R2 may be 0 and is less than R1
-IsLawfulPrim (prim.Cone h r1 r2 foot w) = IsSize h × IsSize r1 × (pos 0 ≤ℤ r2) × (r2 <ℤ r1) × IsPointWithin far foot × IsAxis w
+IsLawfulPrim (prim.Cone h r1 r2 foot w) =
+    IsSize h × IsSize r1 × (pos 0 ≤ℤ r2) × (r2 <ℤ r1) × IsPointWithin far foot × IsAxis w
 -- IGES 5.3, type 158: radius and centre
 IsLawfulPrim (prim.Sphere r centre) = IsSize r × IsPointWithin far centre
 -- IGES 5.3, type 160: the radius R2 of the tube is less than R1
-IsLawfulPrim (prim.Torus r1 r2 centre w) = IsSize r1 × IsSize r2 × (r2 <ℤ r1) × IsPointWithin far centre × IsAxis w
+IsLawfulPrim (prim.Torus r1 r2 centre w) =
+    IsSize r1 × IsSize r2 × (r2 <ℤ r1) × IsPointWithin far centre × IsAxis w
 -- IGES 5.3, type 168: three semi-axes, in any order, the centre, the local axes
-IsLawfulPrim (prim.Ellipsoid size centre u w) = AreSizes size × IsPointWithin far centre × AreAxes u w
+IsLawfulPrim (prim.Ellipsoid size centre u w) =
+    AreSizes size × IsPointWithin far centre × AreAxes u w
 
 -- ---- matrices
 
@@ -120,8 +126,10 @@ IsLawfulRow (row.Opaque kind form matrix text) = Unit {0}
 IsLawfulRow (row.Matrix form affine next) = (form ≤ 1) × IsLawfulMatrix affine
 IsLawfulRow (row.Prim p matrix) = IsLawfulPrim p
 -- IGES 5.3, type 180: one tree in post-order
-IsLawfulRow (row.Tree items matrix) = (length items ≤ most_whole) × AllByRecursion IsLawfulItem items × IsPostOrder items
+IsLawfulRow (row.Tree items matrix) =
+    (length items ≤ most_whole) × AllByRecursion IsLawfulItem items × IsPostOrder items
 -- IGES 5.3, type 184: one item or more
-IsLawfulRow (row.Assembly items matrix) = (0 < length items) × (length items ≤ most_whole) × AllByRecursion IsLawfulPlaced items
+IsLawfulRow (row.Assembly items matrix) =
+    (0 < length items) × (length items ≤ most_whole) × AllByRecursion IsLawfulPlaced items
 -- IGES 5.3, type 430: the number of the solid, 0 for none
 IsLawfulRow (row.Instance child matrix) = child ≤ most_whole

@@ -1,5 +1,7 @@
--- The entities that an entity names, in the order in which its directory entry and its record name them.
-use Rattle.std.specs.Prelude.{◌≡◌, ◌==◌, ◌<◌, ℕ, zero, suc, ◌/◌, ◌%◌, length, List, [], ◌∷◌, ◌++◌, map, cond, slice_get, Option, None, Some, Contains}
+-- The entities that an entity names, in the order in which its directory entry and its record name
+-- them.
+use Rattle.std.specs.Prelude.{◌≡◌, ◌==◌, ◌<◌, ℕ, zero, suc, ◌/◌, ◌%◌, length, List, [], ◌∷◌, ◌++◌}
+use Rattle.std.specs.Prelude.{map, cond, slice_get, Option, None, Some, Contains}
 use Rattle.std.specs.Option.{option_map}
 use Rattle.solid_base.specs.declared.entities.Entity.{Entity}
 use Rattle.solid_base.specs.declared.references.Reference.{Reference}
@@ -12,7 +14,8 @@ use Rattle.solid_base.specs.declared.solids.Row.TheVariants as row
 
 -- ---- numbers of entities
 
--- IGES 5.3, 2.2.4.4 (directory entry section): an entity is named by the odd number of its first directory line, so that at place i, counted from 0, has the number 2 i + 1
+-- IGES 5.3, 2.2.4.4 (directory entry section): an entity is named by the odd number of its first
+-- directory line, so that at place i, counted from 0, has the number 2 i + 1
 abbrev pub at_number : {X : Type 0} → List X → ℕ → Option X
 at_number entities number = cond (number % 2 == 1) (slice_get entities (number / 2)) None
 
@@ -63,7 +66,8 @@ abbrev pub matrices_of : List Placed → List Reference
 matrices_of [] = []
 matrices_of (p ∷ items) = matrix_named p.matrix ++ matrices_of items
 
--- the references of a row: first its own matrix, then those of its record. What isn't read has none, of its matrix neither
+-- the references of a row: first its own matrix, then those of its record. What isn't read has
+-- none, of its matrix neither
 unfoldable pub references_of : Row → List Reference
 references_of row.Null = []
 references_of (row.Opaque kind form matrix text) = []
@@ -71,7 +75,8 @@ references_of (row.Opaque kind form matrix text) = []
 references_of (row.Matrix form affine next) = matrix_named next
 references_of (row.Prim p matrix) = matrix_named matrix
 references_of (row.Tree items matrix) = matrix_named matrix ++ operands_of items
-references_of (row.Assembly items matrix) = matrix_named matrix ++ (items_of items ++ matrices_of items)
+references_of (row.Assembly items matrix) =
+    matrix_named matrix ++ (items_of items ++ matrices_of items)
 -- IGES 5.3, type 430: an instance names one solid
 references_of (row.Instance child matrix) = matrix_named matrix ++ reference.Solid child ∷ []
 

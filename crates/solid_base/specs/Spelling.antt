@@ -1,5 +1,7 @@
 -- How numbers are spelt in fields: integer and real constants (IGES 5.3, 2.2.2 (constants)).
-use Rattle.std.specs.Prelude.{◌≡◌, ℕ, ◌+◌, ◌<◌, ◌-◌, List, [], ◌∷◌, ◌++◌, Bool, true, cond, not, ◌&&◌, ◌||◌, ◌==◌, IsTrue, length, take, drop, Option, Some, None, ◌⊎◌, IsSome}
+use Rattle.std.specs.Prelude.{◌≡◌, ℕ, ◌+◌, ◌<◌, ◌-◌, List, [], ◌∷◌, ◌++◌, Bool, true, cond, not}
+use Rattle.std.specs.Prelude.{◌&&◌, ◌||◌, ◌==◌, IsTrue, length, take, drop, Option, Some, None, ◌⊎◌}
+use Rattle.std.specs.Prelude.{IsSome}
 use Rattle.std.specs.List.{prefix_len, suffix_len, AllByRecursion}
 use Rattle.solid_base.specs.Digits.{is_digit, AreDigits}
 
@@ -35,7 +37,8 @@ pub record Exponent : Type 0 where
   pub sign : Sign
   pub digits : List ℕ
 
--- a number as it is spelt: a sign, the digits of the whole part, a point and the decimals where there is a point, a power of ten where one is given
+-- a number as it is spelt: a sign, the digits of the whole part, a point and the decimals where
+-- there is a point, a power of ten where one is given
 pub record Number : Type 0 where
   pub sign : Sign
   pub whole : List ℕ
@@ -57,7 +60,8 @@ exponent_text (Some e) = e.letter ∷ (sign_text e.sign ++ e.digits)
 
 -- the text of a number
 abbrev pub number_text : Number → List ℕ
-number_text n = sign_text n.sign ++ (n.whole ++ (fraction_text n.fraction ++ exponent_text n.exponent))
+number_text n =
+    sign_text n.sign ++ (n.whole ++ (fraction_text n.fraction ++ exponent_text n.exponent))
 
 -- the digits after the point
 abbrev pub decimals_of : Option (List ℕ) → List ℕ
@@ -67,7 +71,8 @@ decimals_of (Some decimals) = decimals
 -- a power of ten has one of the letters and one or more digits
 abbrev pub IsExponent : Option Exponent → Type 0
 IsExponent None = Unit {0}
-IsExponent (Some e) = IsTrue (is_exponent_letter e.letter) × AreDigits e.digits × (0 < length e.digits)
+IsExponent (Some e) =
+    IsTrue (is_exponent_letter e.letter) × AreDigits e.digits × (0 < length e.digits)
 
 -- a number has a digit before or after its point
 pub record IsNumber (n : Number) : Type 0 where
@@ -123,7 +128,9 @@ after_digits text = drop (prefix_len is_digit text) text
 
 -- a sign or none, one or more digits, and no more
 abbrev pub is_whole : List ℕ → Bool
-is_whole text = not (digit_count (after_sign text) == 0) && (digit_count (after_sign text) == length (after_sign text))
+is_whole text =
+    not (digit_count (after_sign text) == 0)
+    && (digit_count (after_sign text) == length (after_sign text))
 
 -- what may stand after the decimals: nothing, or a letter and a power
 abbrev pub is_exponent : List ℕ → Bool
@@ -147,7 +154,8 @@ class_with_rest whole (b ∷ bs) =
 -- what a text is: empty, a whole number, a real number, or none of these
 abbrev pub class_of : List ℕ → Option Spelling
 class_of [] = Some Empty
-class_of (b ∷ bs) = class_with_rest (digit_count (after_sign (b ∷ bs))) (after_digits (after_sign (b ∷ bs)))
+class_of (b ∷ bs) =
+    class_with_rest (digit_count (after_sign (b ∷ bs))) (after_digits (after_sign (b ∷ bs)))
 
 -- ---- the parts of a text
 
@@ -158,12 +166,24 @@ exponent_of (b ∷ bs) = Some (record { letter = b; sign = sign_of bs; digits = 
 
 -- the parts of a number, by its sign, its whole digits and the text after them
 abbrev pub number_with_rest : Sign → List ℕ → List ℕ → Number
-number_with_rest sign whole [] = record { sign = sign; whole = whole; fraction = None; exponent = None }
+number_with_rest sign whole [] = record {
+  sign = sign;
+  whole = whole;
+  fraction = None;
+  exponent = None;
+}
 number_with_rest sign whole (b ∷ bs) =
     cond (b == 46)
-    (record { sign = sign; whole = whole; fraction = Some (take (digit_count bs) bs); exponent = exponent_of (after_digits bs) })
+    (record {
+      sign = sign;
+      whole = whole;
+      fraction = Some (take (digit_count bs) bs);
+      exponent = exponent_of (after_digits bs);
+    })
     (record { sign = sign; whole = whole; fraction = None; exponent = exponent_of (b ∷ bs) })
 
 -- the parts of a text that is a number
 abbrev pub number_of_text : List ℕ → Number
-number_of_text text = number_with_rest (sign_of text) (take (digit_count (after_sign text)) (after_sign text)) (after_digits (after_sign text))
+number_of_text text =
+    number_with_rest (sign_of text) (take (digit_count (after_sign text)) (after_sign text))
+    (after_digits (after_sign text))

@@ -9,7 +9,8 @@ pub data Operation : Type 0 where
   intersection : Operation
   difference : Operation
 
--- IGES 5.3, type 180: an operand, which is an entity by its number, or an operation on two trees, the left one first
+-- IGES 5.3, type 180: an operand, which is an entity by its number, or an operation on two trees,
+-- the left one first
 pub data Tree : Type 0 where
   operand : ℕ → Tree
   combination : Operation → Tree → Tree → Tree
@@ -20,10 +21,12 @@ item_of union = item.Join
 item_of intersection = item.Meet
 item_of difference = item.Less
 
--- IGES 5.3, type 180: the items of a tree in post-order, which are those of the left tree, those of the right one, and the operation
+-- IGES 5.3, type 180: the items of a tree in post-order, which are those of the left tree, those of
+-- the right one, and the operation
 abbrev pub post_order : Tree → List Item
 post_order (operand entity) = item.Operand entity ∷ []
-post_order (combination operation left right) = post_order left ++ post_order right ++ item_of operation ∷ []
+post_order (combination operation left right) =
+    post_order left ++ post_order right ++ item_of operation ∷ []
 
 -- IGES 5.3, type 180: the items are one tree in post-order
 abbrev pub IsPostOrder : List Item → Type 0

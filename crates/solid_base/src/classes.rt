@@ -6,8 +6,8 @@ pub enum Class {
     Inside,
 }
 
-/// The class of a solid over a box, and the number of the primitive that leaves it `Mixed`: 0 where the
-/// class isn't `Mixed`.
+/// The class of a solid over a box, and the number of the primitive that leaves it `Mixed`: 0 where
+/// the class isn't `Mixed`.
 #[derive(Clone, Copy, Debug, PartialEq, Eq)]
 pub struct Verdict {
     pub class: Class,

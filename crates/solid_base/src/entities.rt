@@ -48,8 +48,8 @@ pub struct RowText {
     pub text: Bytes,
 }
 
-/// The 96 bytes of directory fields of an entity that has none of its own: blanks, and zeros in the eight
-/// of field 9. AllocError when out of memory.
+/// The 96 bytes of directory fields of an entity that has none of its own: blanks, and zeros in the
+/// eight of field 9. AllocError when out of memory.
 pub fn blank_attributes(alloc: Global) -> Result<Bytes, AllocError>
     ensures { IfOk result (λ attrs. attrs ≡ blank_attributes) }
 {

@@ -9,8 +9,8 @@ pub struct Vec3 {
     pub z: i128,
 }
 
-/// A closed box whose sides are parallel to the axes, from its least corner `lo` to its greatest `hi`, in
-/// steps.
+/// A closed box whose sides are parallel to the axes, from its least corner `lo` to its greatest
+/// `hi`, in steps.
 #[derive(Clone, Copy, Debug, PartialEq, Eq)]
 pub struct Cube {
     pub lo: Vec3,

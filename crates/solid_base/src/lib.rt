@@ -1,7 +1,7 @@
 //! The types that all crates of solidd share: lists that contracts see as lists, points in steps,
-//! primitives, rows and entities of a model, classes, replies and ledgers, the readers of digits and
-//! the writers of words.
-//! Contracts see each list as the list of its items, and each other type as the record of its fields.
+//! primitives, rows and entities of a model, classes, replies and ledgers, the readers of digits
+//! and the writers of words. Contracts see each list as the list of its items, and each other type
+//! as the record of its fields.
 #![tactic(auto)]
 
 mod borrowed_lines;

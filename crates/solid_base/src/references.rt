@@ -1,12 +1,13 @@
 ghost use Rattle.std.specs.Prelude.{◌≡◌, ◌++◌, map, IfOk, OnOk};
-ghost use Rattle.solid_base.specs.References.{target, matrix_named, operands_of, items_of, matrices_of, references_of, references};
+ghost use Rattle.solid_base.specs.References.{target, matrix_named, operands_of, items_of};
+ghost use Rattle.solid_base.specs.References.{matrices_of, references_of, references};
 
 use crate::lists::{List, Numbers};
 use crate::solids::{Item, Placed, Row};
 use std::alloc::{AllocError, Global};
 
-/// A reference of a row, by the number of the entity that it names: to a matrix, which moves what names
-/// it, or to a solid, of which what names it is made.
+/// A reference of a row, by the number of the entity that it names: to a matrix, which moves what
+/// names it, or to a solid, of which what names it is made.
 #[derive(Clone, Copy, Debug, PartialEq, Eq)]
 pub enum Reference {
     Matrix(u32),
@@ -63,10 +64,10 @@ fn push_matrices(references: &mut List<Reference>, items: &[Placed]) -> Result<(
     Ok(())
 }
 
-/// The references in the list and after them those of a row, in order: its own matrix where its number
-/// isn't 0, of a matrix the one that is applied after it; then the operands of a tree, or the items of an
-/// assembly and after them their matrices whose numbers aren't 0, or the solid of an instance. What isn't
-/// read has none. AllocError when out of memory; the list is then dropped.
+/// The references in the list and after them those of a row, in order: its own matrix where its
+/// number isn't 0, of a matrix the one that is applied after it; then the operands of a tree, or
+/// the items of an assembly and after them their matrices whose numbers aren't 0, or the solid of
+/// an instance. What isn't read has none. AllocError when out of memory; the list is then dropped.
 #[tactic(auto, unfolding(crate::specs::References::references_of))]
 pub fn with_references(
     references: List<Reference>,

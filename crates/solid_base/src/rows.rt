@@ -1,4 +1,5 @@
-ghost use Rattle.std.specs.Prelude.{◌≡◌, ◌<◌, [], ◌∷◌, ◌++◌, length, map, slice_get, OnOk, OnErr, IfOk, MatchOption};
+ghost use Rattle.std.specs.Prelude.{◌≡◌, ◌<◌, [], ◌∷◌, ◌++◌, length, map, slice_get, OnOk, OnErr};
+ghost use Rattle.std.specs.Prelude.{IfOk, MatchOption};
 ghost use Rattle.std.specs.Arc.{arc_value};
 ghost use Rattle.solid_base.specs.declared.solids.Row.TheVariants as row;
 ghost use Rattle.solid_base.specs.References.{at_number, row_of, row_at};
@@ -64,10 +65,11 @@ impl Rows {
         &self.items[at]
     }
 
-    /// The entity with a number. The entity at place `i` has the number `2 i + 1`; None exactly where no
-    /// entity has the number.
+    /// The entity with a number. The entity at place `i` has the number `2 i + 1`; None exactly
+    /// where no entity has the number.
     pub fn entity(&self, number: u32) -> Option<&Entity>
-        ensures { MatchOption result (at_number self.now number ≡ None) (λ e. at_number self.now number ≡ Some e.now) }
+        ensures { MatchOption result (at_number self.now number ≡ None)
+            (λ e. at_number self.now number ≡ Some e.now) }
     {
         let place = (number / 2) as usize;
         if number % 2 == 1 && place < self.len() {
@@ -77,11 +79,14 @@ impl Rows {
         }
     }
 
-    /// The row of the entity with a number, a Null row too; None exactly where no entity has the number.
+    /// The row of the entity with a number, a Null row too; None exactly where no entity has the
+    /// number.
     #[tactic(auto, unfolding(crate::specs::References::row_at))]
     pub fn row(&self, number: u32) -> Option<&Row>
-        ensures row { MatchOption result (row_of self.now number ≡ None) (λ r. row_of self.now number ≡ Some r.now) }
-        ensures or_null { MatchOption result (row_at self.now number ≡ row.Null) (λ r. row_at self.now number ≡ r.now) }
+        ensures row { MatchOption result (row_of self.now number ≡ None)
+            (λ r. row_of self.now number ≡ Some r.now) }
+        ensures or_null { MatchOption result (row_at self.now number ≡ row.Null)
+            (λ r. row_at self.now number ≡ r.now) }
     {
         match self.entity(number) {
             Some(entity) => Some(&entity.row),

@@ -1,7 +1,8 @@
 ghost use Rattle.std.specs.Prelude.{◌≡◌, ◌≤◌, length, take, min, All, IsTrue};
 ghost use Rattle.std.specs.List.{list_all, prefix_len, suffix_len};
 ghost use Rattle.solid_base.specs.Digits.{is_digit, number_of};
-ghost use Rattle.solid_base.specs.Spelling.{is_blank, after_blanks, before_blanks, digit_count, after_sign};
+ghost use Rattle.solid_base.specs.Spelling.{is_blank, after_blanks, before_blanks, digit_count};
+ghost use Rattle.solid_base.specs.Spelling.{after_sign};
 ghost use Rattle.solid_base.specs.Columns.{digits_in};
 
 use crate::lists::Bytes;
@@ -100,8 +101,8 @@ fn number_of_digits(digits: &[u8]) -> u32
     number_up_to(digits, 999_999_999) as u32
 }
 
-/// The number in at most nine columns: one or more digits, and blanks alone after them. None where the
-/// columns hold anything else.
+/// The number in at most nine columns: one or more digits, and blanks alone after them. None where
+/// the columns hold anything else.
 #[tactic(auto, unfolding(crate::specs::Columns::digits_in))]
 pub fn digits_in(columns: &[u8]) -> Option<u32>
     requires { length columns.now ≤ 9 }

@@ -26,7 +26,8 @@ pub enum Primitive {
         foot: Vec3,
         w: Vec3,
     },
-    /// Type 156: height, the larger and the smaller radius, the centre of the larger face, the axis `w`.
+    /// Type 156: height, the larger and the smaller radius, the centre of the larger face, the axis
+    /// `w`.
     Cone {
         h: i128,
         r1: i128,

@@ -1,11 +1,12 @@
-ghost use Rattle.std.specs.Prelude.{◌≡◌, ◌<◌, ◌+◌, [], ◌∷◌, ◌++◌, length, max, OnOk, OnErr, IsOk, MatchOption, IsTrue, ◌↔◌};
+ghost use Rattle.std.specs.Prelude.{◌≡◌, ◌<◌, ◌+◌, [], ◌∷◌, ◌++◌, length, max, OnOk, OnErr, IsOk};
+ghost use Rattle.std.specs.Prelude.{MatchOption, IsTrue, ◌↔◌};
 
 use crate::classes::Verdict;
 use std::alloc::{AllocError, Global};
 use std::marker::Model;
 
-/// Verdicts, with room that was set aside. Contracts see the list and the spare room: how many verdicts
-/// can be pushed before memory is taken.
+/// Verdicts, with room that was set aside. Contracts see the list and the spare room: how many
+/// verdicts can be pushed before memory is taken.
 #[derive(Debug, Drop)]
 pub struct Verdicts {
     items: Vec<Verdict>,
@@ -77,8 +78,8 @@ impl Verdicts {
         Ok(())
     }
 
-    /// Adds a verdict at the end. Where there is spare room it can't fail, and there is one less of it.
-    /// When out of memory nothing is changed.
+    /// Adds a verdict at the end. Where there is spare room it can't fail, and there is one less of
+    /// it. When out of memory nothing is changed.
     pub fn push(&mut self, item: Verdict) -> Result<(), AllocError>
         ensures room { 0 < self.old.spare → IsOk result }
         ensures ok { OnOk result (self.new.list ≡ self.old.list ++ item ∷ []) }
@@ -96,7 +97,8 @@ impl Verdicts {
     /// Takes the last verdict off, and there is room for one more. None where there is no verdict.
     pub fn pop(&mut self) -> Option<Verdict>
         ensures { MatchOption result ((self.old.list ≡ []) × (self.new ≡ self.old))
-            (λ last. (self.old.list ≡ self.new.list ++ last ∷ []) × (self.new.spare ≡ self.old.spare + 1)) }
+            (λ last. (self.old.list ≡ self.new.list ++ last ∷ [])
+            × (self.new.spare ≡ self.old.spare + 1)) }
     {
         let last = self.items.pop();
         if last.is_some() {

@@ -1,4 +1,5 @@
--- The plain tree that an entity unfolds into along its references. Each meaning of an entity is a recursion on that tree.
+-- The plain tree that an entity unfolds into along its references. Each meaning of an entity is a
+-- recursion on that tree.
 use Rattle.std.specs.Prelude.{◌≡◌, ◌⊎◌, ℕ, zero, suc, List, [], ◌∷◌}
 use Rattle.solid_base.specs.declared.entities.Entity.{Entity}
 use Rattle.solid_base.specs.declared.geometry.Affine.{Affine}
@@ -13,7 +14,10 @@ use Rattle.solid_base.specs.Trees.{Operation, union, Tree, operand, combination}
 use Rattle.boolean_tree.specs.Spelling.{trees_of_items}
 use Rattle.affine_pull.specs.Chains.{chain_of}
 
--- solidd's own: nothing; a primitive with its entity's number and the chain of matrices that moves it; a part that a chain of matrices moves; the part that is a tree, an assembly or an instance with its entity's number, which stands before its own chain; an operation on two parts, the left one first
+-- solidd's own: nothing; a primitive with its entity's number and the chain of matrices that moves
+-- it; a part that a chain of matrices moves; the part that is a tree, an assembly or an instance
+-- with its entity's number, which stands before its own chain; an operation on two parts, the left
+-- one first
 pub data Solid : Type 0 where
   nothing : Solid
   primitive : ℕ → List Affine → Primitive → Solid
@@ -46,11 +50,14 @@ placed_item chain child p = moved (chain p.matrix) (child p.item)
 -- IGES 5.3, type 184: what stands before, united with each item in turn
 abbrev pub united : (ℕ → List Affine) → (ℕ → Solid) → Solid → List Placed → Solid
 united chain child before [] = before
-united chain child before (p ∷ items) = united chain child (combined union before (placed_item chain child p)) items
+united chain child before (p ∷ items) =
+    united chain child (combined union before (placed_item chain child p)) items
 
 -- ---- entities
 
--- IGES 5.3, 2.2.4.4 (directory entry section): an entity is moved by the chain of the matrix that its directory entry names. The solid of a row is made from the chains of matrices and the solids of the entities that it names
+-- IGES 5.3, 2.2.4.4 (directory entry section): an entity is moved by the chain of the matrix that
+-- its directory entry names. The solid of a row is made from the chains of matrices and the solids
+-- of the entities that it names
 abbrev pub row_solid : (ℕ → List Affine) → (ℕ → Solid) → ℕ → Row → Solid
 row_solid chain child e row.Null = nothing
 row_solid chain child e (row.Opaque kind form matrix text) = nothing
@@ -58,14 +65,18 @@ row_solid chain child e (row.Matrix form affine next) = nothing
 row_solid chain child e (row.Prim p matrix) = primitive e (chain matrix) p
 row_solid chain child e (row.Tree items matrix) =
     entity e (moved (chain matrix) (solid_of_items child items))
-row_solid chain child e (row.Assembly items matrix) = entity e (moved (chain matrix) (united chain child nothing items))
--- IGES 5.3, type 430: an instance is the solid that it names, moved by its own chain after that solid's
-row_solid chain child e (row.Instance number matrix) = entity e (moved (chain matrix) (child number))
+row_solid chain child e (row.Assembly items matrix) =
+    entity e (moved (chain matrix) (united chain child nothing items))
+-- IGES 5.3, type 430: an instance is the solid that it names, moved by its own chain after that
+-- solid's
+row_solid chain child e (row.Instance number matrix) =
+    entity e (moved (chain matrix) (child number))
 
 -- solidd's own: the solid of an entity, of which so many levels are counted
 unfoldable pub solid_within : ℕ → List Entity → ℕ → Solid
 solid_within zero rows e = nothing
-solid_within (suc levels) rows e = row_solid (chain_of rows) (solid_within levels rows) e (row_at rows e)
+solid_within (suc levels) rows e =
+    row_solid (chain_of rows) (solid_within levels rows) e (row_at rows e)
 
 -- solidd's own: the solid of an entity, of which all levels are counted that a model may have
 unfoldable pub solid_of : List Entity → ℕ → Solid

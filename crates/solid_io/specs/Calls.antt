@@ -1,4 +1,5 @@
--- solidd's own: calls that fail by a list of their numbers, and the counts of calls and of failures.
+-- solidd's own: calls that fail by a list of their numbers, and the counts of calls and of
+-- failures.
 use Rattle.std.specs.Prelude.{Contains}
 use Rattle.solid_base.specs.Ledgers.{counted}
 use Rattle.solid_io.specs.declared.calls.Calls.{Calls}

@@ -3,7 +3,8 @@ use Rattle.std.specs.Prelude.{◌≡◌, ℕ, List, is_some, Result, Ok, Err}
 use Rattle.std.specs.declared.option.Option.{Option}
 use Rattle.solid_base.specs.Ledgers.{counted}
 
--- the count after a call: one more exactly where the call fails. A count at the greatest `u64` stands still
+-- the count after a call: one more exactly where the call fails. A count at the greatest `u64`
+-- stands still
 abbrev pub count_after : {T E : Type 0} → ℕ → Result T E → ℕ
 count_after count (Ok _) = count
 count_after count (Err _) = counted count 1

@@ -1,6 +1,7 @@
-//! Where bytes come from and go to, and the spots at which a run may be held: traits, ends in memory
-//! whose failing calls are listed, adapters over std, and a gate that is always open.
-//! Contracts see the bytes left and held, known or not, and a count that rises by one at each failure.
+//! Where bytes come from and go to, and the spots at which a run may be held: traits, ends in
+//! memory whose failing calls are listed, adapters over std, and a gate that is always open.
+//! Contracts see the bytes left and held, known or not, and a count that rises by one at each
+//! failure.
 #![tactic(auto)]
 
 mod calls;

@@ -1,4 +1,5 @@
-ghost use Rattle.std.specs.Prelude.{◌≡◌, ◌↔◌, ◌-◌, ◌<◌, [], ◌++◌, length, take, drop, min, IsErr, IfOk, OnErr};
+ghost use Rattle.std.specs.Prelude.{◌≡◌, ◌↔◌, ◌-◌, ◌<◌, [], ◌++◌, length, take, drop, min, IsErr};
+ghost use Rattle.std.specs.Prelude.{IfOk, OnErr};
 ghost use Rattle.std.specs.Io.{ReadsAtMost, WritesAtMost};
 ghost use Rattle.std.specs.Io.KnownBytes.{ReadConsumes, WriteAppends};
 ghost use Rattle.solid_base.specs.Ledgers.{most_count};
@@ -104,8 +105,8 @@ impl Model for MemSink {
 impl MemSink {
     ghost use Rattle.solid_io.specs.Memory.{Store};
 
-    /// A sink that takes `room` bytes in all, with the memory for them. The calls with the numbers in
-    /// `fails`, counted from 0, will fail.
+    /// A sink that takes `room` bytes in all, with the memory for them. The calls with the numbers
+    /// in `fails`, counted from 0, will fail.
     pub fn new(alloc: Global, room: usize, fails: Numbers) -> Result<MemSink, AllocError>
         ensures empty { IfOk result (λ sink. sink.held ≡ []) }
         ensures room { IfOk result (λ sink. sink.room ≡ room) }
@@ -138,8 +139,8 @@ impl Sink for MemSink {
 
     ghost bounded = { λ s. within_most s.calls.faults };
 
-    /// Takes as many bytes as there is room for, and no memory. Fails exactly at the listed calls, and
-    /// where no room is left for a piece that isn't empty, and then keeps nothing of the piece.
+    /// Takes as many bytes as there is room for, and no memory. Fails exactly at the listed calls,
+    /// and where no room is left for a piece that isn't empty, and then keeps nothing of the piece.
     fn write(&mut self, bytes: &[u8]) -> Result<usize, Failed>
         ensures bound { WritesAtMost result bytes.now }
         ensures bytes { WriteAppends

@@ -7,7 +7,8 @@ ghost use Rattle.solid_io.specs.Causes.{SameKnown, count_after};
 use crate::traits::{Failed, Sink, Source};
 use std::io::{Read, Write};
 
-/// Standard input, or any reader of std, as a source whose bytes aren't known. It counts each failure.
+/// Standard input, or any reader of std, as a source whose bytes aren't known. It counts each
+/// failure.
 #[derive(Drop)]
 pub struct StdSource<R> {
     inner: R,
@@ -55,7 +56,8 @@ impl<R: Read> Source for StdSource<R> {
     }
 }
 
-/// Standard output, or any writer of std, as a sink whose bytes aren't known. It counts each failure.
+/// Standard output, or any writer of std, as a sink whose bytes aren't known. It counts each
+/// failure.
 #[derive(Drop)]
 pub struct StdSink<W> {
     inner: W,
@@ -82,8 +84,8 @@ impl<W: Write> Sink for StdSink<W> {
 
     ghost bounded = { λ s. within_most s.faults };
 
-    /// Calls the writer once. A write that fails isn't tried again; a writer that takes no byte of a
-    /// piece that isn't empty has failed.
+    /// Calls the writer once. A write that fails isn't tried again; a writer that takes no byte of
+    /// a piece that isn't empty has failed.
     fn write(&mut self, bytes: &[u8]) -> Result<usize, Failed>
         ensures bound { WritesAtMost result bytes.now }
         ensures bytes { WriteAppends None None result bytes.now }

@@ -17,8 +17,8 @@ pub trait Source {
     ghost faults: { Self → ℕ };
 
     /// Puts the first bytes of those left at the front of `buf`, and answers how many they are: 0
-    /// with room in `buf` only at the end. After `Failed` no byte is lost, and the content of `buf` is
-    /// free. The count of failures rises by one exactly then.
+    /// with room in `buf` only at the end. After `Failed` no byte is lost, and the content of `buf`
+    /// is free. The count of failures rises by one exactly then.
     fn read(&mut self, buf: &mut [u8]) -> Result<usize, Failed>
         ensures bound { ReadsAtMost result buf.new }
         ensures bytes { ReadConsumes (left self.old) (left self.new) result buf.new }
@@ -37,8 +37,8 @@ pub trait Sink {
     ghost faults: { Self → ℕ };
 
     /// Appends a front of `bytes` to those held, and answers its length: at least 1 where there are
-    /// any. After `Failed` the bytes held are as they were. The count of failures rises by one exactly
-    /// then.
+    /// any. After `Failed` the bytes held are as they were. The count of failures rises by one
+    /// exactly then.
     fn write(&mut self, bytes: &[u8]) -> Result<usize, Failed>
         ensures bound { WritesAtMost result bytes.now }
         ensures bytes { WriteAppends (held self.old) (held self.new) result bytes.now }

@@ -1,5 +1,6 @@
 -- solidd's own: the answers to points, and the text of a replay of them.
-use Rattle.std.specs.Prelude.{◌≡◌, ℕ, zero, suc, ◌+◌, List, [], ◌∷◌, ◌++◌, codes, decimal, map, Some}
+use Rattle.std.specs.Prelude.{◌≡◌, ℕ, zero, suc, ◌+◌, List, [], ◌∷◌, ◌++◌, codes, decimal, map}
+use Rattle.std.specs.Prelude.{Some}
 use Rattle.fixed_enclosure.specs.Places.{spans_of}
 use Rattle.fixed_enclosure.specs.Spans.{box_of}
 use Rattle.solid_base.specs.References.{row_at}
@@ -52,15 +53,16 @@ abbrev pub point_verdict : List Entity → ℕ → Vec3 → Verdict
 point_verdict rows number at =
     written (solid_of rows number) (spans_of (box_of (record { lo = at; hi = at })))
 
--- the answer by the verdict on a point: each primitive of the solid is evaluated as often as it stands there
+-- the answer by the verdict on a point: each primitive of the solid is evaluated as often as it
+-- stands there
 abbrev pub verdict_answer : List Entity → ℕ → Vec3 → Answer
 verdict_answer rows number at = record {
   words = class_words (point_verdict rows number at).leaf (point_verdict rows number at).class;
   evaluations = leaf_count (solid_of rows number);
 }
 
--- the answer to a point on an entity that may be a solid, where this is the least number of the entities that it
--- reaches and that aren't read, 0 for none
+-- the answer to a point on an entity that may be a solid, where this is the least number of the
+-- entities that it reaches and that aren't read, 0 for none
 abbrev pub solid_answer : List Entity → ℕ → Vec3 → ℕ → Answer
 solid_answer rows number at zero = verdict_answer rows number at
 solid_answer rows number at (suc n) = refusal (unsupported (suc n))
@@ -73,8 +75,10 @@ IsSolidAnswer rows number at answer =
 -- this is the answer to a point on a number with this row
 abbrev pub IsRowAnswer : List Entity → ℕ → Vec3 → Row → Answer → Type 0
 IsRowAnswer rows number at row.Null answer = answer ≡ refusal (no_entity number)
-IsRowAnswer rows number at (row.Opaque kind form matrix text) answer = IsSolidAnswer rows number at answer
-IsRowAnswer rows number at (row.Matrix form affine next) answer = answer ≡ refusal (not_solid number)
+IsRowAnswer rows number at (row.Opaque kind form matrix text) answer =
+    IsSolidAnswer rows number at answer
+IsRowAnswer rows number at (row.Matrix form affine next) answer =
+    answer ≡ refusal (not_solid number)
 IsRowAnswer rows number at (row.Prim p matrix) answer = IsSolidAnswer rows number at answer
 IsRowAnswer rows number at (row.Tree items matrix) answer = IsSolidAnswer rows number at answer
 IsRowAnswer rows number at (row.Assembly items matrix) answer = IsSolidAnswer rows number at answer
@@ -117,4 +121,5 @@ most_evaluations rows (question ∷ questions) =
 -- one answer was written and counted: the text and the count before and after it
 abbrev pub IsGiven : (Answer → Type 0) → List ℕ → List ℕ → ℕ → ℕ → Type 0
 IsGiven Is out out' count count' =
-    (answer : Answer) × Is answer × (out' ≡ out ++ answer.words) × (count' ≡ counted count answer.evaluations)
+    (answer : Answer) × Is answer × (out' ≡ out ++ answer.words)
+    × (count' ≡ counted count answer.evaluations)

@@ -1,5 +1,7 @@
 -- solidd's own: what a check of bytes answers.
-use Rattle.std.specs.Prelude.{◌≡◌, ℕ, ◌+◌, ◌-◌, ◌*◌, ◌==◌, ◌&&◌, Bool, true, false, not, List, [], ◌∷◌, ◌++◌, codes, decimal, length, slice_get, Option, None, Some, if◌then◌else◌}
+use Rattle.std.specs.Prelude.{◌≡◌, ℕ, ◌+◌, ◌-◌, ◌*◌, ◌==◌, ◌&&◌, Bool, true, false, not, List, []}
+use Rattle.std.specs.Prelude.{◌∷◌, ◌++◌, codes, decimal, length, slice_get, Option, None, Some}
+use Rattle.std.specs.Prelude.{if◌then◌else◌}
 use Rattle.std.specs.List.{list_any}
 use Rattle.solid_base.specs.References.{references}
 use Rattle.solid_base.specs.Graph.{depth_of, weight_of}
@@ -42,7 +44,8 @@ tallies_from t (e ∷ es) = tallies_from (with_row t e.row) es
 abbrev pub tallies_of : List Entity → Tallies
 tallies_of rows = tallies_from (record { null = 0; kept = 0; read = 0 }) rows
 
--- a global parameter as it is printed: a number as it is spelt, the content of a text, `-` where it is empty or left out
+-- a global parameter as it is printed: a number as it is spelt, the content of a text, `-` where it
+-- is empty or left out
 abbrev pub parameter_words : Option Token → List ℕ
 parameter_words None = codes "-"
 parameter_words (Some token.Empty) = codes "-"
@@ -56,11 +59,22 @@ global_words model number = parameter_words (slice_get model.global (number - 3)
 
 -- how many rows there are, and how many of them are read, kept and null
 abbrev pub rows_line : List Entity → List ℕ
-rows_line rows = codes "MODEL " ++ (decimal (length rows) ++ (codes " READ " ++ (decimal (tallies_of rows).read ++ (codes " KEPT " ++ (decimal (tallies_of rows).kept ++ (codes " NULL " ++ (decimal (tallies_of rows).null ++ codes "\n")))))))
+rows_line rows =
+    codes "MODEL "
+    ++ (decimal (length rows)
+    ++ (codes " READ "
+    ++ (decimal (tallies_of rows).read
+    ++ (codes " KEPT "
+    ++ (decimal (tallies_of rows).kept
+    ++ (codes " NULL " ++ (decimal (tallies_of rows).null ++ codes "\n")))))))
 
 -- the model space scale (13), the units flag (14) and the version flag (23)
 abbrev pub globals_line : Model → List ℕ
-globals_line model = codes "SCALE " ++ (global_words model 13 ++ (codes " UNITS " ++ (global_words model 14 ++ (codes " VERSION " ++ (global_words model 23 ++ codes "\n")))))
+globals_line model =
+    codes "SCALE "
+    ++ (global_words model 13
+    ++ (codes " UNITS "
+    ++ (global_words model 14 ++ (codes " VERSION " ++ (global_words model 23 ++ codes "\n")))))
 
 -- the entity names this number
 abbrev pub names : ℕ → Entity → Bool
@@ -83,16 +97,22 @@ is_solid (row.Instance child matrix) = true
 -- the number, the weight and the depth of a solid
 abbrev pub root_line : List Entity → ℕ → List ℕ
 root_line rows number =
-    codes "ROOT " ++ (decimal number ++ (codes " " ++ (decimal (weight_of rows number) ++ (codes " " ++ (decimal (depth_of rows number) ++ codes "\n")))))
+    codes "ROOT "
+    ++ (decimal number
+    ++ (codes " "
+    ++ (decimal (weight_of rows number)
+    ++ (codes " " ++ (decimal (depth_of rows number) ++ codes "\n")))))
 
 -- the line of the entity with a number, where it is a solid that no entity names
 abbrev pub root_of : List Entity → ℕ → Row → List ℕ
-root_of rows number r = if is_solid r && not (is_named rows number) then root_line rows number else []
+root_of rows number r =
+    if is_solid r && not (is_named rows number) then root_line rows number else []
 
 -- the lines of these entities, of which the first stands at this place among all
 abbrev pub roots_from : List Entity → ℕ → List Entity → List ℕ
 roots_from rows place [] = []
-roots_from rows place (entity ∷ entities) = root_of rows (2 * place + 1) entity.row ++ roots_from rows (place + 1) entities
+roots_from rows place (entity ∷ entities) =
+    root_of rows (2 * place + 1) entity.row ++ roots_from rows (place + 1) entities
 
 -- the solids that no entity names, in order
 abbrev pub root_lines : List Entity → List ℕ
@@ -100,11 +120,14 @@ root_lines rows = roots_from rows 0 rows
 
 -- the text of a check
 abbrev pub check_text : Model → List ℕ
-check_text model = rows_line model.rows ++ (globals_line model ++ (root_lines model.rows ++ codes "END\n"))
+check_text model =
+    rows_line model.rows ++ (globals_line model ++ (root_lines model.rows ++ codes "END\n"))
 
--- Done comes only for a file, with the text of its model; Refused only for bytes that are refused as a file, with their first fault; no other status comes
+-- Done comes only for a file, with the text of its model; Refused only for bytes that are refused
+-- as a file, with their first fault; no other status comes
 abbrev pub IsChecked : List ℕ → Status → List ℕ → Type 0
-IsChecked bytes status.Done text = (model : Model) × (end : ℕ) × Reads bytes model end × (text ≡ check_text model)
+IsChecked bytes status.Done text =
+    (model : Model) × (end : ℕ) × Reads bytes model end × (text ≡ check_text model)
 IsChecked bytes status.Refused text = IsRefusal bytes text
 IsChecked bytes status.Usage text = ⊥
 IsChecked bytes status.Memory text = ⊥

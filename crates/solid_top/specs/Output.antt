@@ -1,5 +1,7 @@
--- solidd's own: the text that a run prints: the log of the commits, the replies of each session, and END.
-use Rattle.std.specs.Prelude.{ℕ, suc, List, [], ◌∷◌, ◌++◌, codes, decimal, length, Option, None, Some}
+-- solidd's own: the text that a run prints: the log of the commits, the replies of each session,
+-- and END.
+use Rattle.std.specs.Prelude.{ℕ, suc, List, [], ◌∷◌, ◌++◌, codes, decimal, length, Option, None}
+use Rattle.std.specs.Prelude.{Some}
 use Rattle.std.specs.List.{flat_map}
 use Rattle.solid_base.specs.declared.replies.Reply.{Reply}
 
@@ -12,7 +14,8 @@ version_text (Some version) = decimal version
 abbrev pub reply_text : Reply → List ℕ
 reply_text reply = version_text reply.version ++ (codes " " ++ (reply.body ++ codes "\n"))
 
--- a commit in the log: the session that made it, and the number of its line among that session's lines
+-- a commit in the log: the session that made it, and the number of its line among that session's
+-- lines
 pub record LogEntry : Type 0 where
   pub session : ℕ
   pub line : ℕ
@@ -21,19 +24,30 @@ pub record LogEntry : Type 0 where
 abbrev pub log_text : ℕ → List LogEntry → List ℕ
 log_text version [] = []
 log_text version (entry ∷ log) =
-    decimal version ++ (codes " @" ++ (decimal entry.session ++ (codes " " ++ (decimal entry.line ++ (codes "\n" ++ log_text (suc version) log)))))
+    decimal version
+    ++ (codes " @"
+    ++ (decimal entry.session
+    ++ (codes " " ++ (decimal entry.line ++ (codes "\n" ++ log_text (suc version) log)))))
 
 -- a session's number, the number of its replies, and these; nothing for a session without a line
 abbrev pub session_text : ℕ → List Reply → List ℕ
 session_text session [] = []
 session_text session (reply ∷ replies) =
-    codes "@" ++ (decimal session ++ (codes " " ++ (decimal (length (reply ∷ replies)) ++ (codes "\n" ++ flat_map reply_text (reply ∷ replies)))))
+    codes "@"
+    ++ (decimal session
+    ++ (codes " "
+    ++ (decimal (length (reply ∷ replies))
+    ++ (codes "\n" ++ flat_map reply_text (reply ∷ replies)))))
 
 -- the replies of each session from a first number on
 abbrev pub sessions_text : ℕ → List (List Reply) → List ℕ
 sessions_text session [] = []
-sessions_text session (replies ∷ more) = session_text session replies ++ sessions_text (suc session) more
+sessions_text session (replies ∷ more) =
+    session_text session replies ++ sessions_text (suc session) more
 
 -- the whole text; the transcripts are those of the sessions from 0 on
 abbrev pub output_text : List LogEntry → List (List Reply) → List ℕ
-output_text log transcripts = codes "LOG " ++ (decimal (length log) ++ (codes "\n" ++ (log_text 1 log ++ (sessions_text 0 transcripts ++ codes "END\n"))))
+output_text log transcripts =
+    codes "LOG "
+    ++ (decimal (length log)
+    ++ (codes "\n" ++ (log_text 1 log ++ (sessions_text 0 transcripts ++ codes "END\n"))))

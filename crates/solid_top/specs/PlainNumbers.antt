@@ -1,6 +1,7 @@
--- solidd's own: a plain number is an optional minus, one or more digits, and optionally a point and one to twelve
--- digits. Its magnitude is at most 100,000 units.
-use Rattle.std.specs.Prelude.{◌≡◌, ◌<◌, ◌≤◌, ℕ, ◌+◌, ◌*◌, ◌-◌, ◌^◌, ℤ, pos, neg_ℤ, List, [], ◌∷◌, ◌++◌, Bool, true, false, codes, length}
+-- solidd's own: a plain number is an optional minus, one or more digits, and optionally a point and
+-- one to twelve digits. Its magnitude is at most 100,000 units.
+use Rattle.std.specs.Prelude.{◌≡◌, ◌<◌, ◌≤◌, ℕ, ◌+◌, ◌*◌, ◌-◌, ◌^◌, ℤ, pos, neg_ℤ, List, [], ◌∷◌}
+use Rattle.std.specs.Prelude.{◌++◌, Bool, true, false, codes, length}
 use Rattle.solid_base.specs.Digits.{AreDigits, number_of}
 use Rattle.solid_base.specs.Range.{far}
 use Rattle.solid_top.specs.declared.plain_numbers.DecimalPoint.{DecimalPoint}

@@ -14,7 +14,8 @@ pub record IsDelimited (rule : DecimalPoint) (stop : ℕ) (text : List ℕ) (ste
   pub spelt : text ≡ number ++ stop ∷ []
 
 -- three coordinates, of which each of the first two is ended by one byte and the third by another
-pub record IsPosition (rule : DecimalPoint) (between after : ℕ) (text : List ℕ) (at : Vec3) : Type 0 where
+pub record IsPosition (rule : DecimalPoint) (between after : ℕ) (text : List ℕ)
+    (at : Vec3) : Type 0 where
   pub x_text : List ℕ
   pub y_text : List ℕ
   pub z_text : List ℕ

@@ -1,4 +1,5 @@
--- How a text is read from its front: each step gives what was read and the bytes after it, or nothing.
+-- How a text is read from its front: each step gives what was read and the bytes after it, or
+-- nothing.
 use Rattle.std.specs.Prelude.{◌≡◌, ℕ, List, [], ◌∷◌, cond, ◌==◌, Option, None, Some}
 
 infixl 10 ◌>>=◌

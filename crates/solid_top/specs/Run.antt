@@ -1,7 +1,7 @@
--- solidd's own: how a run ends, what it has then read, and what it has written.
--- Of the bytes left in a source and held by a sink these definitions speak where they are known. `left` and `left'`
--- are those before and after the run, `reads` and `reads'` the counts of failed reads; `held`, `held'`, `writes` and
--- `writes'` the same of the sink.
+-- solidd's own: how a run ends, what it has then read, and what it has written. Of the bytes left
+-- in a source and held by a sink these definitions speak where they are known. `left` and `left'`
+-- are those before and after the run, `reads` and `reads'` the counts of failed reads; `held`,
+-- `held'`, `writes` and `writes'` the same of the sink.
 use Rattle.std.specs.Prelude.{◌≡◌, ℕ, ◌<◌, ◌≤◌, ◌⊎◌, List, length, Option}
 use Rattle.std.specs.Io.KnownBytes.{Appends, Consumes, IsAtEnd, Keeps}
 use Rattle.solid_base.specs.Ledgers.{counted}
@@ -19,18 +19,21 @@ pub record IsInput (left left' : Option (List ℕ)) (bytes : List ℕ) : Type 0 
   pub fits : length bytes ≤ most_bytes
 
 -- the words are a command, the input was read, and this is what the command answers to it
-pub record ComesOf (words : List (List ℕ)) (left left' : Option (List ℕ)) (s : Status) (text : List ℕ) : Type 0 where
+pub record ComesOf (words : List (List ℕ)) (left left' : Option (List ℕ)) (s : Status)
+    (text : List ℕ) : Type 0 where
   pub named : Command
   pub words_are : Names words named
   pub bytes : List ℕ
   pub input : IsInput left left' bytes
   pub answers : Answers named bytes s text
 
--- the status and the text that a run comes to, before it writes: a usage line where the words are no command, and
--- then nothing is read; TOO LONG where more than 2^25 bytes were read; else the answers to the input, or its refusal
+-- the status and the text that a run comes to, before it writes: a usage line where the words are
+-- no command, and then nothing is read; TOO LONG where more than 2^25 bytes were read; else the
+-- answers to the input, or its refusal
 abbrev pub Comes : List (List ℕ) → Option (List ℕ) → Option (List ℕ) → Status → List ℕ → Type 0
 Comes words left left' status.Done text = ComesOf words left left' status.Done text
-Comes words left left' status.Usage text = (IsCommand words → ⊥) × Keeps left left' × (text ≡ usage_text)
+Comes words left left' status.Usage text =
+    (IsCommand words → ⊥) × Keeps left left' × (text ≡ usage_text)
 Comes words left left' status.Refused text = ComesOf words left left' status.Refused text
 Comes words left left' status.Memory text = ⊥
 Comes words left left' status.ReadFault text = ⊥
@@ -47,19 +50,22 @@ Finishes held held' writes writes' s text result =
 
 -- the whole text of a status was written
 abbrev pub Writes
-    : List (List ℕ) → Option (List ℕ) → Option (List ℕ) → Option (List ℕ) → Option (List ℕ) → Status → Type 0
+    : List (List ℕ) → Option (List ℕ) → Option (List ℕ) → Option (List ℕ) → Option (List ℕ) → Status
+    → Type 0
 Writes words left left' held held' s =
     (text : List ℕ) × Comes words left left' s text × Appends held held' text
 
--- a run stopped at a read or when out of memory: at most 2^25 bytes were read, and nothing was written
+-- a run stopped at a read or when out of memory: at most 2^25 bytes were read, and nothing was
+-- written
 abbrev pub Stops
     : List (List ℕ) → Option (List ℕ) → Option (List ℕ) → Option (List ℕ) → Option (List ℕ) → Type 0
 Stops words left left' held held' = IsCommand words × IsShortRead left left' × Keeps held held'
 
--- how a run ends: when out of memory or a read failed nothing is written; after a failed write a front of the text
--- is; else the whole text of the status
+-- how a run ends: when out of memory or a read failed nothing is written; after a failed write a
+-- front of the text is; else the whole text of the status
 abbrev pub Ends
-    : List (List ℕ) → Option (List ℕ) → Option (List ℕ) → Option (List ℕ) → Option (List ℕ) → Status → Type 0
+    : List (List ℕ) → Option (List ℕ) → Option (List ℕ) → Option (List ℕ) → Option (List ℕ) → Status
+    → Type 0
 Ends words left left' held held' status.Memory = Stops words left left' held held'
 Ends words left left' held held' status.ReadFault = Stops words left left' held held'
 Ends words left left' held held' status.WriteFault =
@@ -89,8 +95,8 @@ writes_after count status.Memory = count
 writes_after count status.ReadFault = count
 writes_after count status.TooLong = count
 
--- a run with these words: how it ends; a read, or a write, failed exactly where the status says so, and none is tried
--- after it; the bytes stay known or unknown
+-- a run with these words: how it ends; a read, or a write, failed exactly where the status says so,
+-- and none is tried after it; the bytes stay known or unknown
 pub record IsRun (words : List (List ℕ)) (left left' : Option (List ℕ)) (reads reads' : ℕ)
     (held held' : Option (List ℕ)) (writes writes' : ℕ) (result : Status) : Type 0 where
   pub ends : Ends words left left' held held' result
@@ -101,16 +107,17 @@ pub record IsRun (words : List (List ℕ)) (left left' : Option (List ℕ)) (rea
 
 -- ---- an input that is known whole
 
--- the status and the text that are due to an input: a usage line where the words are no command, TOO LONG where there
--- are more than 2^25 bytes, and else what the command answers
+-- the status and the text that are due to an input: a usage line where the words are no command,
+-- TOO LONG where there are more than 2^25 bytes, and else what the command answers
 abbrev pub IsDue : List (List ℕ) → List ℕ → Status → List ℕ → Type 0
 IsDue words bytes s text =
     ((IsCommand words → ⊥) × (s ≡ status.Usage) × (text ≡ usage_text))
-    ⊎ ((IsCommand words × (most_bytes < length bytes) × (s ≡ status.TooLong) × (text ≡ too_long_text))
+    ⊎ ((IsCommand words × (most_bytes < length bytes) × (s ≡ status.TooLong)
+    × (text ≡ too_long_text))
     ⊎ ((c : Command) × Names words c × (length bytes ≤ most_bytes) × Answers c bytes s text))
 
--- how a run ends to which this status and text are due: with them, the text written whole; with WriteFault, and a front
--- of it; or with Memory or ReadFault, and nothing
+-- how a run ends to which this status and text are due: with them, the text written whole; with
+-- WriteFault, and a front of it; or with Memory or ReadFault, and nothing
 abbrev pub EndsDue : Option (List ℕ) → Option (List ℕ) → Status → List ℕ → Status → Type 0
 EndsDue held held' s text result =
     ((result ≡ s) × Appends held held' text)

@@ -45,8 +45,8 @@ fn push_number(out: &mut Bytes, word: &[u8], number: u32) -> Result<(), AllocErr
     push_decimal(out, number)
 }
 
-/// Adds the words for a point on an entity that may be a solid: its verdict over the box of the point
-/// alone, or the number of an entity that it needs and that isn't read.
+/// Adds the words for a point on an entity that may be a solid: its verdict over the box of the
+/// point alone, or the number of an entity that it needs and that isn't read.
 fn push_solid_answer<L: Ledger>(
     alloc: Global,
     out: &mut Bytes,

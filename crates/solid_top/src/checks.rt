@@ -18,8 +18,8 @@ use iges_file::read_file;
 use solid_base::{Bytes, Model, Row, Rows, Token, push_decimal};
 use std::alloc::{AllocError, Global};
 
-/// The number of the first global parameter that a model keeps: the two before it tell the delimiters
-/// (IGES 5.3, 2.2.4.3).
+/// The number of the first global parameter that a model keeps: the two before it tell the
+/// delimiters (IGES 5.3, 2.2.4.3).
 const FIRST_KEPT: usize = 3;
 
 /// How many rows are null, are kept as they stand, and are read.
@@ -136,13 +136,13 @@ fn check_text(alloc: Global, model: &Model, graph: &Graph) -> Result<Bytes, Allo
     Ok(text)
 }
 
-/// Reads a file in the fixed form, of at most 2^25 bytes, and tells what it holds: how many rows there
-/// are, how many of them are read, kept and null; the model space scale, the units flag and the version
-/// flag (IGES 5.3, 2.2.4.3, parameters 13, 14 and 23); and the number, the weight and the depth of each
-/// solid that no entity names. The status is then `Done`.
+/// Reads a file in the fixed form, of at most 2^25 bytes, and tells what it holds: how many rows
+/// there are, how many of them are read, kept and null; the model space scale, the units flag and
+/// the version flag (IGES 5.3, 2.2.4.3, parameters 13, 14 and 23); and the number, the weight and
+/// the depth of each solid that no entity names. The status is then `Done`.
 ///
-/// Bytes that are no file are `Refused`, and the text is the line of their first fault. AllocError comes
-/// when out of memory.
+/// Bytes that are no file are `Refused`, and the text is the line of their first fault. AllocError
+/// comes when out of memory.
 pub fn check_run(alloc: Global, bytes: &[u8]) -> Result<Output, AllocError>
     requires { length bytes.now ≤ 2 ^ 25 }
     ensures { IfOk result (λ out. IsChecked bytes.now out.status out.text) }

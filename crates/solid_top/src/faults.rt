@@ -41,7 +41,8 @@ impl TopFault {
     }
 }
 
-/// Whether a file's fault has words: neither it nor a fault in it is out of memory, whose number is 1.
+/// Whether a file's fault has words: neither it nor a fault in it is out of memory, whose number is
+/// 1.
 fn has_words(fault: &FileFault) -> bool
     ensures { IsTrue result ↔ IsOfText (TopFault.File fault.now) }
 {

@@ -1,6 +1,6 @@
-//! A whole run of solidd: the input is read, answered and written, and the status says how it ended.
-//! Contracts see the bytes that a source gave and a sink took, and say by definitions on whole texts
-//! which input is taken, what is answered to it, and why each status comes.
+//! A whole run of solidd: the input is read, answered and written, and the status says how it
+//! ended. Contracts see the bytes that a source gave and a sink took, and say by definitions on
+//! whole texts which input is taken, what is answered to it, and why each status comes.
 #![tactic(auto)]
 
 mod answers;

@@ -1,7 +1,8 @@
 ghost use Rattle.std.specs.Prelude.{◌≡◌, ◌<◌, ◌≤◌, ◌^◌, IfSome};
 ghost use Rattle.solid_base.specs.Range.{far, IsWithin};
 ghost use Rattle.solid_top.specs.PlainNumbers.{signed};
-ghost use Rattle.solid_top.specs.PlainReading.{step_of, decimals_at, fraction_at, magnitude_at, after_minus, plain_at};
+ghost use Rattle.solid_top.specs.PlainReading.{step_of, decimals_at, fraction_at, magnitude_at};
+ghost use Rattle.solid_top.specs.PlainReading.{after_minus, plain_at};
 ghost use Rattle.solid_top.specs.Reading.{Gives};
 
 use crate::scan::digits;

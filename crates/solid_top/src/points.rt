@@ -1,6 +1,7 @@
 ghost use Rattle.std.specs.Prelude.{◌≡◌, IfSome};
 ghost use Rattle.solid_base.specs.Range.{far, IsWithin, IsPointWithin};
-ghost use Rattle.solid_top.specs.FormReading.{delimited_at, position_at, entity_number_at, point_at};
+ghost use Rattle.solid_top.specs.FormReading.{delimited_at, position_at, entity_number_at};
+ghost use Rattle.solid_top.specs.FormReading.{point_at};
 ghost use Rattle.solid_top.specs.Reading.{Gives};
 
 use crate::plain_numbers::{DecimalPoint, plain};
@@ -11,7 +12,8 @@ use solid_base::Vec3;
 /// A plain number in front, and the bytes after the byte that ends it.
 #[tactic(auto, unfolding(crate::specs::FormReading::delimited_at))]
 pub fn delimited(rule: DecimalPoint, stop: u8, bytes: &[u8]) -> Option<(i128, &[u8])>
-    ensures value { Gives (λ found. (found.0, found.1.now)) result (delimited_at rule stop bytes.now) }
+    ensures value { Gives (λ found. (found.0, found.1.now)) result
+        (delimited_at rule stop bytes.now) }
     ensures within { IfSome result (λ found. IsWithin far found.0) }
 {
     let (steps, rest) = plain(rule, bytes)?;
@@ -22,7 +24,8 @@ pub fn delimited(rule: DecimalPoint, stop: u8, bytes: &[u8]) -> Option<(i128, &[
 /// Three coordinates in front, and the bytes after them.
 #[tactic(auto, unfolding(crate::specs::FormReading::position_at))]
 pub fn position(rule: DecimalPoint, between: u8, after: u8, bytes: &[u8]) -> Option<(Vec3, &[u8])>
-    ensures value { Gives (λ found. (found.0, found.1.now)) result (position_at rule between after bytes.now) }
+    ensures value { Gives (λ found. (found.0, found.1.now)) result
+        (position_at rule between after bytes.now) }
     ensures within { IfSome result (λ found. IsPointWithin far found.0) }
 {
     let (x, rest) = delimited(rule, between, bytes)?;

@@ -1,4 +1,5 @@
-ghost use Rattle.std.specs.Prelude.{◌≡◌, ◌↔◌, ◌≢◌, ◌⊎◌, ℕ, List, Some, true, is_some, IfOk, map, ◌≤◌, ◌^◌, length};
+ghost use Rattle.std.specs.Prelude.{◌≡◌, ◌↔◌, ◌≢◌, ◌⊎◌, ℕ, List, Some, true, is_some, IfOk, map};
+ghost use Rattle.std.specs.Prelude.{◌≤◌, ◌^◌, length};
 ghost use Rattle.std.specs.Io.KnownBytes.{Keeps};
 ghost use Rattle.solid_io.specs.Causes.{SameKnown};
 ghost use Rattle.solid_top.specs.declared.statuses.Status.{Status};
@@ -84,13 +85,13 @@ fn run_words<S: Source, K: Sink>(
     }
 }
 
-/// Runs a command: its words are the command line without the program's name, and the commands that are
-/// built yet are `check` and `replay`. Reads the source to its end, answers, and writes the answer to the
-/// sink. The first read or write that fails ends the run.
+/// Runs a command: its words are the command line without the program's name, and the commands that
+/// are built yet are `check` and `replay`. Reads the source to its end, answers, and writes the
+/// answer to the sink. The first read or write that fails ends the run.
 ///
 /// The status is `Usage` where the words are no command, and then nothing is read; `ReadFault` or
-/// `WriteFault` exactly where a call on the source or the sink failed; `TooLong` where more than 2^25
-/// bytes were read; `Memory` when out of memory; else that of the answer, `Done` or `Refused`.
+/// `WriteFault` exactly where a call on the source or the sink failed; `TooLong` where more than
+/// 2^25 bytes were read; `Memory` when out of memory; else that of the answer, `Done` or `Refused`.
 pub fn run<R: Threads + Wait + Sync, S: Source, K: Sink, G: Gate>(
     _rt: &R,
     alloc: Global,
@@ -103,7 +104,8 @@ pub fn run<R: Threads + Wait + Sync, S: Source, K: Sink, G: Gate>(
         (S.left source.old) (S.left source.new) (S.faults source.old) (S.faults source.new)
         (K.held sink.old) (K.held sink.new) (K.faults sink.old) (K.faults sink.new) result }
 
-    // Usage comes exactly where the words are no command, unless a write failed; then nothing is read.
+    // Usage comes exactly where the words are no command, unless a write failed; then nothing is
+    // read.
     ensures usage { result ≢ Status.WriteFault →
         ((result ≡ Status.Usage) ↔ (IsCommand (map (λ word. word.now) words.now) → ⊥)) }
     ensures unread { (IsCommand (map (λ word. word.now) words.now) → ⊥) →

@@ -100,10 +100,10 @@ fn answers_text<L: Ledger>(
     replay_output(alloc, questions.len() as u32, replies.as_slice())
 }
 
-/// Answers the points after a file, of at most 2^25 bytes in all: a line of session 1 for each. Bytes
-/// that are no file are refused with their first fault, and a file after which stand lines that ask no
-/// points with NotBuilt; then nothing is evaluated. The ledger counts the evaluations of primitives.
-/// AllocError comes when out of memory.
+/// Answers the points after a file, of at most 2^25 bytes in all: a line of session 1 for each.
+/// Bytes that are no file are refused with their first fault, and a file after which stand lines
+/// that ask no points with NotBuilt; then nothing is evaluated. The ledger counts the evaluations
+/// of primitives. AllocError comes when out of memory.
 pub fn replay_run<L: Ledger>(
     alloc: Global,
     bytes: &[u8],

@@ -42,7 +42,8 @@ pub fn file_of(rt: &impl Abort, alloc: Global, records: &[Record]) -> Result<Byt
     Ok(file)
 }
 
-/// What is expected of an input: its status, its text, and how often primitives are evaluated at most.
+/// What is expected of an input: its status, its text, and how often primitives are evaluated at
+/// most.
 fn expect_replay(
     rt: &impl Abort,
     alloc: Global,
@@ -219,8 +220,8 @@ const BALL_AT_2: &str = "158,1.,2.,0.,0.;";
 #[test]
 fn points_on_trees_are_answered(rt: HostRuntime) -> Result<(), AllocError> {
     let alloc = rt.alloc();
-    // Two blocks that share the face at x = 1, what they make together, the first without itself, and
-    // what they share.
+    // Two blocks that share the face at x = 1, what they make together, the first without itself,
+    // and what they share.
     let records = [
         (150, 0, "150,1.,1.,1.;"),
         (150, 0, "150,1.,1.,1.,1.,0.,0.;"),
@@ -262,7 +263,8 @@ fn points_on_trees_are_answered(rt: HostRuntime) -> Result<(), AllocError> {
 #[test]
 fn points_on_moved_solids_are_answered(rt: HostRuntime) -> Result<(), AllocError> {
     let alloc = rt.alloc();
-    // A ball, a matrix and the one after it, and two instances, of which the second moves the first.
+    // A ball, a matrix and the one after it, and two instances, of which the second moves the
+    // first.
     let records = [
         (158, 0, BALL),
         (124, 5, ALONG_X),

@@ -4,8 +4,8 @@ ghost use Rattle.solid_base.specs.Spelling.{after_digits};
 ghost use Rattle.solid_top.specs.Reading.{Gives, strip};
 ghost use Rattle.solid_top.specs.PlainReading.{front_digits};
 
-/// The digits in front of a text: the number that they spell, how many they are, and the bytes after
-/// them.
+/// The digits in front of a text: the number that they spell, how many they are, and the bytes
+/// after them.
 #[derive(Clone, Copy, Debug)]
 pub struct Front<'a> {
     pub number: u64,
@@ -40,7 +40,8 @@ pub fn byte(expected: u8, bytes: &[u8]) -> Option<&[u8]>
 
 /// The digits in front of a text. None where they spell 10^12 or more.
 pub fn digits(bytes: &[u8]) -> Option<Front<'_>>
-    ensures number { IfSome result (λ found. (found.number ≡ number_of (front_digits bytes.now)) × (found.number < 10 ^ 12)) }
+    ensures number { IfSome result
+        (λ found. (found.number ≡ number_of (front_digits bytes.now)) × (found.number < 10 ^ 12)) }
     ensures count { IfSome result (λ found. found.count ≡ length (front_digits bytes.now)) }
     ensures rest { IfSome result (λ found. found.rest.now ≡ after_digits bytes.now) }
     ensures none { IfNone result (10 ^ 12 ≤ number_of (front_digits bytes.now)) }

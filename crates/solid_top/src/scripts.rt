@@ -9,8 +9,8 @@ use crate::points::point_line;
 use crate::questions::Questions;
 use std::alloc::{AllocError, Global};
 
-/// The questions that a script asks, a line each. None where it isn't made of point lines. AllocError
-/// when out of memory.
+/// The questions that a script asks, a line each. None where it isn't made of point lines.
+/// AllocError when out of memory.
 pub fn read_questions(alloc: Global, script: &[u8]) -> Result<Option<Questions>, AllocError>
     ensures asked { IfOk result (λ found. IfSome found (Spells IsPointLine 0 script.now)) }
     ensures within { IfOk result (λ found. IfSome found (λ questions.

@@ -51,8 +51,9 @@ fn buffer(alloc: Global, size: usize) -> Result<Vec<u8>, AllocError>
     Vec::from_elem(alloc, 0, size)
 }
 
-/// Reads the source to its end, in pieces of 64 KiB. The first read that fails ends it, and so does the
-/// first piece with which there are more than 2^25 bytes. After an error the source has lost what was read.
+/// Reads the source to its end, in pieces of 64 KiB. The first read that fails ends it, and so does
+/// the first piece with which there are more than 2^25 bytes. After an error the source has lost
+/// what was read.
 pub fn read_input<S: Source>(alloc: Global, source: &mut S) -> Result<Bytes, ReadError>
     ensures fits { IfOk result (λ bytes. length bytes ≤ most_bytes) }
     ensures bytes { IfOk result (λ bytes. Consumes (S.left source.old) (S.left source.new) bytes) }
@@ -75,8 +76,8 @@ pub fn read_input<S: Source>(alloc: Global, source: &mut S) -> Result<Bytes, Rea
     }
 }
 
-/// Writes the whole text, in as few pieces as the sink takes. The first write that fails ends it; then a
-/// front of the text was written.
+/// Writes the whole text, in as few pieces as the sink takes. The first write that fails ends it;
+/// then a front of the text was written.
 pub fn write_text<K: Sink>(sink: &mut K, text: &[u8]) -> Result<(), Failed>
     ensures ok { OnOk result (Appends (K.held sink.old) (K.held sink.new) text.now) }
     ensures err { OnErr result (AppendsFront (K.held sink.old) (K.held sink.new) text.now) }

@@ -1,4 +1,5 @@
-//! Whole runs on worked inputs: each status once for each command, and each allocating call with ample memory.
+//! Whole runs on worked inputs: each status once for each command, and each allocating call with
+//! ample memory.
 use crate::replay_tests::{Record, file_of};
 use crate::{Status, TopFault, check_run, run};
 use solid_base::{Bytes, Numbers};
@@ -209,8 +210,8 @@ fn one(alloc: Global, number: u32) -> Result<Numbers, AllocError> {
     Ok(numbers)
 }
 
-/// A run over memory: its status, and what was written. One read and one write fail, and each write past
-/// the room.
+/// A run over memory: its status, and what was written. One read and one write fail, and each write
+/// past the room.
 fn run_over<R: Threads + Wait + Sync>(
     rt: &R,
     alloc: Global,
@@ -238,8 +239,8 @@ fn expect_run(rt: &impl Abort, ended: &(Status, Bytes), status: Status, written:
 /// A call that is never reached.
 const NEVER: u32 = u32::MAX;
 
-/// The commands, each with what it answers to a sphere with one point after it, and the first ten bytes
-/// of that.
+/// The commands, each with what it answers to a sphere with one point after it, and the first ten
+/// bytes of that.
 const COMMANDS: [(&str, &str, &str); 2] = [
     (
         "check",

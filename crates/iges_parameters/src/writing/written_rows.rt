@@ -19,7 +19,8 @@ use std::alloc::{AllocError, Global};
 /// The lines of 64 columns in which an entity's record is written: the type's number, the
 /// parameters, those with a default too, and the fields after them, each with `comma` after it and
 /// the last with `semi`. A record that isn't read stands as it was, in one line at least.
-/// AllocError when out of memory. Solidd's own choice among the layouts of IGES 5.3, 2.2.4.5 (parameter data section).
+/// AllocError when out of memory. Solidd's own choice among the layouts of IGES 5.3, 2.2.4.5
+/// (parameter data section).
 pub fn row_lines(alloc: Global, entity: &Entity, comma: u8, semi: u8) -> Result<Lines, AllocError>
     requires lawful { IsLawfulRow entity.now.row }
     requires spelt { AreSpelt entity.now.tail }
