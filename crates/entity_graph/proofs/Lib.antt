@@ -19,3 +19,7 @@ pub mod Leading
 pub mod OneOfBoth
 pub mod FirstOpaques
 pub mod Found
+pub mod Marked
+pub mod Reaching
+pub mod Stamping
+pub mod StandardFacts

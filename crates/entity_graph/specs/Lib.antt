@@ -2,8 +2,11 @@ pub mod GraphFaults
 pub mod FirstFaults
 pub mod Opaque
 pub mod Levels
+pub mod Reached
+pub mod Stamps
 pub mod Rules
 pub mod Links
 pub mod Order
 pub mod Tables
 pub mod Measures
+pub mod Marks

@@ -4,6 +4,8 @@ use Rattle.solid_base.specs.declared.entities.Entity.{Entity}
 use Rattle.solid_base.specs.References.{HasNumber}
 use Rattle.solid_base.specs.Graph.{AreSound, depth_of, weight_of, most_weight}
 use Rattle.entity_graph.specs.Opaque.{IsFirstOpaque}
+use Rattle.entity_graph.specs.Links.{places}
+use Rattle.entity_graph.specs.Order.{IsWhole}
 
 -- the entry of the row with a number
 abbrev pub entry : List ℕ → ℕ → ℕ
@@ -13,9 +15,11 @@ entry table e = slice_index_or table (e / 2) 0
 abbrev pub AreLight : List Entity → Type 0
 AreLight rows = (e : ℕ) → weight_of rows e ≤ most_weight
 
--- the references obey the rules, and the tables hold the depth, the weight and the first opaque row
--- of each row
-pub record AreTables (rows : List Entity) (depths weights opaques : List ℕ) : Type 0 where
+-- the references obey the rules, all rows stand in the order, and the tables hold the depth, the
+-- weight and the first opaque row of each row
+pub record AreTables (rows : List Entity) (order depths weights opaques : List ℕ) : Type 0 where
+  pub few : length rows ≤ 100000
+  pub whole : IsWhole (places rows) order
   pub sound : AreSound rows
   pub depths_length : length depths ≡ length rows
   pub weights_length : length weights ≡ length rows

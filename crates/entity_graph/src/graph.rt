@@ -1,24 +1,31 @@
-ghost use Rattle.std.specs.Prelude.{◌≡◌, ◌≤◌, ℕ, length, IfOk, IfErr};
-ghost use Rattle.solid_base.specs.References.{HasNumber};
+ghost use Rattle.std.specs.Prelude.{◌≡◌, ◌↔◌, ◌≤◌, ℕ, length, Some, Contains, IfOk, IfErr};
+ghost use Rattle.solid_base.specs.References.{HasNumber, Reaches, at_number};
 ghost use Rattle.solid_base.specs.Graph.{AreSound, depth_of, weight_of};
 ghost use Rattle.entity_graph.specs.GraphFaults.{IsOfText};
 ghost use Rattle.entity_graph.specs.FirstFaults.{IsFault};
 ghost use Rattle.entity_graph.specs.Opaque.{IsFirstOpaque};
+ghost use Rattle.entity_graph.specs.Reached.{IsAscending};
+ghost use Rattle.entity_graph.specs.Stamps.{IsStamp};
 
 use crate::graph_faults::GraphFault;
 use crate::links::Links;
+use crate::marks::Marks;
+use crate::reached::{mark_reached, mark_reaching};
 use crate::rules::check_references;
 use crate::stages::{find_depths, find_places, find_weights};
+use crate::stamps::Stamps;
 use crate::tables::Measure;
-use solid_base::Rows;
-use std::alloc::Global;
+use solid_base::{Numbers, Rows};
+use std::alloc::{AllocError, Global};
 use std::marker::Model;
 
-/// Rows whose references obey the rules, with the depth and the weight of each and the first row
-/// that it reaches and that isn't read. Contracts see the rows.
+/// Rows whose references obey the rules, with an order in which what a row names comes before it,
+/// and the depth and the weight of each and the first row that it reaches and that isn't read.
+/// Contracts see the rows.
 #[derive(Debug, Drop)]
 pub struct Graph {
     rows: Rows,
+    order: Vec<u32>,
     depths: Vec<u32>,
     weights: Vec<u32>,
     opaques: Vec<u32>,
@@ -34,7 +41,8 @@ impl Model for Graph {
 
     ghost view = { λ g. g.rows };
 
-    ghost invariant = { λ g. AreTables g.rows g.depths.items g.weights.items g.opaques.items };
+    ghost invariant = { λ g.
+        AreTables g.rows g.order.items g.depths.items g.weights.items g.opaques.items };
 }
 
 impl Graph {
@@ -57,6 +65,7 @@ impl Graph {
         let opaques = Measure::Opaque.table(alloc, &links, &order)?;
         Ok(Graph {
             rows: links.into_rows(),
+            order,
             depths,
             weights,
             opaques,
@@ -94,5 +103,43 @@ impl Graph {
         ensures { IsFirstOpaque self.now e result }
     {
         self.opaques[(e / 2) as usize]
+    }
+    /// The numbers of the rows that the row with a number reaches, itself among them, in ascending
+    /// order.
+    pub fn reach(&self, alloc: Global, rows: &Rows, e: u32) -> Result<Numbers, AllocError>
+        requires graph { self.now ≡ rows.now }
+        requires number { HasNumber rows.now e }
+        ensures reached { IfOk result (λ numbers. (k : ℕ) →
+            Contains numbers k ↔ Reaches rows.now e k) }
+        ensures ascending { IfOk result (λ numbers. IsAscending numbers) }
+    {
+        let mut marked = Marks::none(alloc, rows.len())?;
+        marked.mark(e);
+        let marks = mark_reached(alloc, rows, &self.order, marked)?;
+        marks.numbers(alloc)
+    }
+
+    /// The stamps of the rows after a change of those with some numbers: the version for each row
+    /// that reaches one of them, and for each other its old stamp. A changed number that no row has
+    /// changes nothing.
+    pub fn stamps(
+        &self,
+        alloc: Global,
+        rows: &Rows,
+        old: &Stamps,
+        changed: &Numbers,
+        version: u64,
+    ) -> Result<Stamps, AllocError>
+        requires graph { self.now ≡ rows.now }
+        requires known { (e : ℕ) →
+            HasNumber rows.now e → ¬ Contains changed.now e → HasNumber old.now e }
+        ensures one_each { IfOk result (λ stamps. length stamps ≡ length rows.now) }
+        ensures stamps { IfOk result (λ stamps. (e s : ℕ) → at_number stamps e ≡ Some s →
+            IsStamp rows.now changed.now version old.now e s) }
+    {
+        let mut marked = Marks::none(alloc, rows.len())?;
+        marked.mark_numbers(changed.as_slice());
+        let marks = mark_reaching(alloc, rows, &self.order, marked)?;
+        old.renewed(alloc, &marks, version)
     }
 }

@@ -1,7 +1,8 @@
-ghost use Rattle.std.specs.Prelude.{◌≤◌};
+ghost use Rattle.std.specs.Prelude.{◌≤◌, ℕ, length, Contains, IfOk};
+ghost use Rattle.solid_base.specs.References.{HasNumber};
 
-use crate::{Graph, GraphFault};
-use solid_base::{Affine, Bytes, Entity, Item, List, Placed, Prim, Row, Rows, Vec3};
+use crate::{Graph, GraphFault, Stamps};
+use solid_base::{Affine, Bytes, Entity, Item, List, Numbers, Placed, Prim, Row, Rows, Vec3};
 use std::alloc::{AllocError, Global};
 use std::sync::Arc;
 
@@ -283,6 +284,103 @@ fn weighs_a_star(rt: HostRuntime) -> Result<(), AllocError> {
             assert_eq!(rt; graph.weight(2003), 1000);
             assert_eq!(rt; graph.depth(2003), 3);
             assert_eq!(rt; graph.opaque(2003), 0);
+        }
+    }
+    Ok(())
+}
+
+#[test]
+fn lists_what_each_row_reaches(rt: HostRuntime) -> Result<(), AllocError> {
+    use Draft::{Ball, Join, Matrix, Null, Parts, Unread, Use};
+    // With each row the numbers that it reaches.
+    let cases: [(Draft, &[u32]); 12] = [
+        (Null, &[1]),
+        (Matrix(0), &[3]),
+        (Matrix(3), &[3, 5]),
+        (Ball(5), &[3, 5, 7]),
+        (Unread(314), &[9]),
+        (Unread(124), &[11]),
+        (Use(9, 11), &[9, 11, 13]),
+        (Join(&[7, 7, 13], 0), &[3, 5, 7, 9, 11, 13, 15]),
+        (Parts(&[(7, 11), (9, 0)], 3), &[3, 5, 7, 9, 11, 17]),
+        // What is named may stand after the row.
+        (Use(23, 0), &[3, 5, 7, 19, 23]),
+        (Join(&[19], 5), &[3, 5, 7, 19, 21, 23]),
+        (Use(7, 0), &[3, 5, 7, 23]),
+    ];
+    let alloc = rt.alloc();
+    let mut rows = Rows::new(alloc);
+    for (draft, _) in cases {
+        push(alloc, &mut rows, row(alloc, draft)?)?;
+    }
+    assert!(rt; rows.len() == 12);
+    match Graph::check(alloc, &rows) {
+        Err(fault) => assert!(rt; false, "{fault:?}"),
+        Ok(graph) => {
+            for (place, (_, want)) in cases.iter().enumerate() {
+                assert!(rt; place < 12);
+                let e = 2 * place as u32 + 1;
+                let reached = graph.reach(alloc, &rows, e)?;
+                assert_eq!(rt; reached.as_slice(), *want, "reached from {e}");
+            }
+        }
+    }
+    Ok(())
+}
+
+/// The numbers of all rows.
+fn numbers(alloc: Global, rows: &Rows) -> Result<Numbers, AllocError>
+    requires { length rows.now ≤ 1000 }
+    ensures { IfOk result (λ numbers. (e : ℕ) → HasNumber rows.now e → Contains numbers e) }
+{
+    let mut numbers = Numbers::new(alloc);
+    for place in 0..rows.len() {
+        numbers.push(2 * place as u32 + 1)?;
+    }
+    Ok(numbers)
+}
+
+#[test]
+fn stamps_what_reaches_a_change(rt: HostRuntime) -> Result<(), AllocError> {
+    use Draft::{Ball, Join, Matrix, Null, Unread, Use};
+    let drafts = [
+        Matrix(0),
+        Ball(1),
+        Ball(0),
+        Join(&[3, 5], 0),
+        Use(13, 0),
+        Null,
+        Use(7, 0),
+        Unread(314),
+    ];
+    // One after another: what is changed, in which version, and the stamps of all rows then.
+    let cases: [(&[u32], u64, [u64; 8]); 7] = [
+        (&[1], 1, [1, 1, 0, 1, 1, 0, 1, 0]),
+        (&[5], 2, [1, 1, 2, 2, 2, 0, 2, 0]),
+        (&[], 3, [1, 1, 2, 2, 2, 0, 2, 0]),
+        (&[15, 11, 15], 4, [1, 1, 2, 2, 2, 4, 2, 4]),
+        // Numbers that no row has.
+        (&[0, 2, 17, 4_294_967_295], 5, [1, 1, 2, 2, 2, 4, 2, 4]),
+        (&[9], 6, [1, 1, 2, 2, 6, 4, 2, 4]),
+        // A version need not be greater than the stamps before.
+        (&[3, 15], 0, [1, 0, 2, 0, 0, 4, 0, 0]),
+    ];
+    let alloc = rt.alloc();
+    let rows = rows_of(alloc, &drafts)?;
+    assert!(rt; rows.len() == 8);
+    match Graph::check(alloc, &rows) {
+        Err(fault) => assert!(rt; false, "{fault:?}"),
+        Ok(graph) => {
+            let all = numbers(alloc, &rows)?;
+            let mut stamps = graph.stamps(alloc, &rows, &Stamps::new(alloc), &all, 0)?;
+            for (changed, version, want) in cases {
+                let changed = Numbers::from_vec(Vec::from_slice(alloc, changed)?);
+                stamps = graph.stamps(alloc, &rows, &stamps, &changed, version)?;
+                for place in 0..8 {
+                    let e = 2 * place as u32 + 1;
+                    assert_eq!(rt; stamps.of(e), want[place], "stamp of {e} in {version}");
+                }
+            }
         }
     }
     Ok(())

@@ -4,6 +4,7 @@ ghost use Rattle.solid_base.specs.Graph.{AreSound};
 ghost use Rattle.entity_graph.specs.declared.graph_faults.GraphFault.{GraphFault};
 ghost use Rattle.entity_graph.specs.FirstFaults.{IsFault};
 ghost use Rattle.entity_graph.specs.Levels.{HasNoLevels};
+ghost use Rattle.entity_graph.specs.Stamps.{IsStamp};
 
 /// A law on all rows: their references obey the rules, or have one first fault, and never both.
 pub fn one_outcome()
@@ -18,4 +19,10 @@ pub fn one_outcome()
 /// weight.
 pub fn without_levels()
     ensures { (rows : List Entity) → AreSound rows → (e : ℕ) → HasNoLevels rows e }
+{}
+
+/// A law on all rows and changes: an entity has one stamp after a change, and no other.
+pub fn one_stamp()
+    ensures { (rows : List Entity) (changed : List ℕ) (version : ℕ) (old : List ℕ) (e s t : ℕ) →
+        IsStamp rows changed version old e s → IsStamp rows changed version old e t → s ≡ t }
 {}

@@ -1,4 +1,5 @@
-use Rattle.std.proofs.Common.{◌∙◌, sym, subst}
+use Rattle.std.proofs.Common.{◌∙◌, ◌≤◌, List, length, sym, subst}
+use Rattle.solid_base.specs.declared.entities.Entity.{Entity}
 use Rattle.solid_base.specs.Graph.{AreSound}
 use Rattle.entity_graph.specs.Tables.{AreTables}
 use Rattle.entity_graph.proofs.graph.Graph.check.Goals as goal
@@ -14,7 +15,9 @@ find_weights-requires-clause-directed c = c.in_ok-check_references.ensures.direc
 
 pub invariant_of-result : goal.invariant_of-result
 invariant_of-result c =
-    let tables : AreTables c.in_ok-links.links c.in_ok-depths.depths.items c.in_ok-weights.weights.items c.in_ok-opaques.opaques.items = record {
+    let tables : AreTables c.in_ok-links.links c.in_ok-order.order.items c.in_ok-depths.depths.items c.in_ok-weights.weights.items c.in_ok-opaques.opaques.items = record {
+      few = subst (λ (rows : List Entity). length rows ≤ 100000) (sym (c.in_ok-links.ensures ∙ c.in_ok-share.ensures)) c.requires;
+      whole = c.in_ok-order.ensures.whole;
       sound = record {
         present = c.in_ok-check_references.ensures.present;
         directed = c.in_ok-check_references.ensures.directed;
@@ -29,7 +32,7 @@ invariant_of-result c =
       weight = c.in_ok-weights.ensures.weights;
       opaque = c.in_ok-opaques.ensures.right;
     } in
-    subst (λ rows. AreTables rows c.in_ok-depths.depths.items c.in_ok-weights.weights.items c.in_ok-opaques.opaques.items) (sym c.into_rows.ensures) tables
+    subst (λ rows. AreTables rows c.in_ok-order.order.items c.in_ok-depths.depths.items c.in_ok-weights.weights.items c.in_ok-opaques.opaques.items) (sym c.into_rows.ensures) tables
 
 pub returns-clause-sound : goal.returns-clause-sound
 returns-clause-sound c =

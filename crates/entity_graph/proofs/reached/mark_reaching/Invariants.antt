@@ -1,0 +1,5 @@
+use Rattle.entity_graph.proofs.Reaching.{AreReaching}
+use Rattle.entity_graph.proofs.reached.mark_reaching.Given as goal
+
+abbrev pub invariant-loop-place : goal.invariant-loop-place
+invariant-loop-place l = AreReaching l.rows l.order l.fn.marked l.marks l.place-index
