@@ -37,7 +37,6 @@ use std::alloc::{AllocError, Global};
 /// entity's solid: as often as the entity weighs where it reaches nothing unread, and never more
 /// often, so at most 2^20 times. The graph is that of the rows. AllocError when out of memory,
 /// which comes before the first evaluation.
-#[tactic(auto, unfolding(crate::specs::Solids::solid_of))]
 pub fn afresh<L: Ledger>(
     alloc: Global,
     rows: &Rows,
@@ -68,15 +67,52 @@ pub fn afresh<L: Ledger>(
     ensures ledger { RisesUpTo (L.count leaves.old) (L.count leaves.new) (weight_of rows.now e) }
     ensures light { RisesUpTo (L.count leaves.old) (L.count leaves.new) most_weight }
 {
-    graph.obeys();
     let mut stack = Verdicts::new(alloc);
     stack.reserve(weight(rows, graph, e))?;
-    let verdict = entity_verdict::<Evaluated<L>>(rows, MOST_LEVELS, e, at, &mut stack, leaves);
-    Ok(verdict)
+    Ok(afresh_in(rows, graph, e, at, &mut stack, leaves))
 }
 
-// How much a number weighs: 0 where no entity has it.
-fn weight(rows: &Rows, graph: &Graph, e: u32) -> usize
+/// The verdict on an entity over a box, as [`afresh`] gives it, with room that is lent: the stack
+/// has room for as many verdicts as the entity weighs, and is afterwards what it was. No memory is
+/// taken.
+#[tactic(auto, unfolding(crate::specs::Solids::solid_of))]
+pub fn afresh_in<L: Ledger>(
+    rows: &Rows,
+    graph: &Graph,
+    e: u32,
+    at: &Box3,
+    stack: &mut Verdicts,
+    leaves: &mut L,
+) -> Verdict
+    requires rows { AllByRecursion (λ e. IsLawfulRow e.row) rows.now }
+    requires graph { graph.now ≡ rows.now }
+    requires at { IsBox at.now }
+    requires room { weight_of rows.now e ≤ stack.old.spare }
+    ensures verdict { result ≡ written (solid_of rows.now e) (spans_of at.now) }
+    ensures leaf { IsVerdict result }
+    ensures places { IsOfPlaces (solid_of rows.now e) at.now result.class }
+    ensures interior { (point : Vec3) → at.now ≡ box_of (point_cube point) →
+        result.class ≡ Class.Inside → IsInterior 1 (solid_of rows.now e) point }
+    ensures exterior { (point : Vec3) → at.now ≡ box_of (point_cube point) →
+        result.class ≡ Class.Outside → IsExterior 1 (solid_of rows.now e) point }
+    ensures cause { HasCause rows.now e (spans_of at.now) result }
+    ensures sharp { (p : Primitive) (point : Vec3) → row_at rows.now e ≡ row.Prim p 0 →
+        IsSharp p → IsPointWithin far point → at.now ≡ box_of (point_cube point) →
+        result.class ≡ place_class 1 (solid_of rows.now e) point }
+    ensures counted { L.count leaves.new ≡
+        counted (L.count leaves.old) (leaf_count (solid_of rows.now e)) }
+    ensures most { RisesUpTo (L.count leaves.old) (L.count leaves.new)
+        (leaf_count (solid_of rows.now e)) }
+    ensures ledger { RisesUpTo (L.count leaves.old) (L.count leaves.new) (weight_of rows.now e) }
+    ensures light { RisesUpTo (L.count leaves.old) (L.count leaves.new) most_weight }
+    ensures kept { stack.new ≡ stack.old }
+{
+    graph.obeys();
+    entity_verdict::<Evaluated<L>>(rows, MOST_LEVELS, e, at, stack, leaves)
+}
+
+/// How much a number weighs: 0 where no entity has it.
+pub fn weight(rows: &Rows, graph: &Graph, e: u32) -> usize
     requires rows { AllByRecursion (λ e. IsLawfulRow e.row) rows.now }
     requires graph { graph.now ≡ rows.now }
     ensures { result ≡ weight_of rows.now e }

@@ -19,7 +19,7 @@ mod use_walk;
 pub mod verdict_laws;
 mod walk;
 
-pub use evaluation::{afresh, combine, primitive_verdict};
+pub use evaluation::{afresh, afresh_in, combine, primitive_verdict, weight};
 pub use places::leaf_at;
 pub use use_walk::Walk;
 

@@ -19,13 +19,13 @@ use Rattle.solid_eval.proofs.Sharp.{sharp_point}
 use Rattle.solid_eval.proofs.Sound.{of_places}
 use Rattle.solid_eval.proofs.Taken.{evaluated_verdict, evaluated_count, rises_by}
 use Rattle.solid_eval.proofs.Uses.{count_most}
-use Rattle.solid_eval.proofs.evaluation.afresh.Goals as goal
+use Rattle.solid_eval.proofs.evaluation.afresh_in.Goals as goal
 
 pub returns-clause-verdict : goal.returns-clause-verdict
 unfolding solid_of
 returns-clause-verdict g c =
     let s = spans_of c.args.at.now in
-    (c.entity_verdict-verdict.ensures.takes s refl).0 ∙ evaluated_verdict (solid_of c.args.rows.now c.args.e) s (g.L.Ledger.count c.args.leaves.now)
+    (c.entity_verdict.ensures.takes s refl).0 ∙ evaluated_verdict (solid_of c.args.rows.now c.args.e) s (g.L.Ledger.count c.args.leaves.now)
 
 pub returns-clause-leaf : goal.returns-clause-leaf
 returns-clause-leaf g c = subst IsVerdict (sym (returns-clause-verdict g c)) (is_verdict c.args.rows.now c.args.e (spans_of c.args.at.now))
@@ -71,7 +71,7 @@ unfolding solid_of
 returns-clause-counted g c =
     let s = spans_of c.args.at.now in
     let old = g.L.Ledger.count c.args.leaves.now in
-    (c.entity_verdict-verdict.ensures.takes s refl).1 ∙ evaluated_count (solid_of c.args.rows.now c.args.e) s old (g.met.L.Ledger.bounded c.args.leaves.now)
+    (c.entity_verdict.ensures.takes s refl).1 ∙ evaluated_count (solid_of c.args.rows.now c.args.e) s old (g.met.L.Ledger.bounded c.args.leaves.now)
 
 pub returns-clause-most : goal.returns-clause-most
 returns-clause-most g c =
@@ -82,10 +82,10 @@ returns-clause-most g c =
 pub returns-clause-ledger : goal.returns-clause-ledger
 returns-clause-ledger g c =
     let count = g.L.Ledger.count in
-    up_to (count c.args.leaves.now) (count c.entity_verdict-verdict.new.state) (leaf_count (solid_of c.args.rows.now c.args.e)) (weight_of c.args.rows.now c.args.e) (count_most c.args.rows.now c.args.e) (returns-clause-most g c)
+    up_to (count c.args.leaves.now) (count c.entity_verdict.new.state) (leaf_count (solid_of c.args.rows.now c.args.e)) (weight_of c.args.rows.now c.args.e) (count_most c.args.rows.now c.args.e) (returns-clause-most g c)
 
 pub returns-clause-light : goal.returns-clause-light
 returns-clause-light g c =
     let sound = subst AreSound c.requires.graph c.obeys.ensures.sound in
     let count = g.L.Ledger.count in
-    up_to (count c.args.leaves.now) (count c.entity_verdict-verdict.new.state) (weight_of c.args.rows.now c.args.e) most_weight (sound.light c.args.e) (returns-clause-ledger g c)
+    up_to (count c.args.leaves.now) (count c.entity_verdict.new.state) (weight_of c.args.rows.now c.args.e) most_weight (sound.light c.args.e) (returns-clause-ledger g c)
