@@ -210,7 +210,7 @@ extent_of verdicts cube parts count b long is =
       };
     }
 
-all_outside_at : (verdicts : List Verdict) (parts count : ℕ) → length verdicts ≤ count
+pub all_outside_at : (verdicts : List Verdict) (parts count : ℕ) → length verdicts ≤ count
     → HasFound parts verdicts count None → AllOutside verdicts
 all_outside_at verdicts parts count long none place s =
     none place ((let l = slice_get_within verdicts place s.verdict s.there in omega (arith, l, long)), s)

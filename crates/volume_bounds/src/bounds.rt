@@ -1,4 +1,5 @@
-ghost use Rattle.std.specs.Prelude.{◌≡◌, ◌*◌, ◌<◌, ◌≤◌, length, MatchOption};
+ghost use Rattle.std.specs.Prelude.{◌≡◌, ◌*◌, ◌<◌, ◌≤◌, length, MatchOption, IfSome};
+ghost use Rattle.solid_base.specs.Range.{IsPointWithin, far};
 ghost use Rattle.volume_bounds.specs.Cells.{parts_of, most_depth, cell_of, cube_of, corner};
 ghost use Rattle.volume_bounds.specs.Cells.{IsCell, IsGridCube};
 ghost use Rattle.volume_bounds.specs.Extents.{AllOutside, IsExtent};
@@ -25,6 +26,8 @@ pub fn bounds_flat(verdicts: &Verdicts, cube: &Cube, depth: u32) -> Option<Cube>
         ≡ parts_of depth * parts_of depth * parts_of depth }
     ensures extent { MatchOption result (AllOutside verdicts.now.list)
         (λ found. IsExtent verdicts.now.list cube.now (parts_of depth) found) }
+    ensures near { IfSome result
+        (λ found. IsPointWithin far found.lo × IsPointWithin far found.hi) }
 {
     let parts = parts(depth);
     let mut found: Option<Block> = None;

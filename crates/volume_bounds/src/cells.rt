@@ -46,37 +46,49 @@ pub fn cell_cube(cube: &Cube, depth: u32, cell: &Cell) -> Cube
     ensures cell { result ≡ cube_of cube.now (parts_of depth) cell.now }
     ensures near { IsCube result }
 {
-    let parts = parts(depth);
     Cube {
-        lo: grid_corner(cube, parts, cell.x, cell.y, cell.z),
-        hi: grid_corner(cube, parts, cell.x + 1, cell.y + 1, cell.z + 1),
+        lo: grid_corner(cube, depth, cell.x, cell.y, cell.z),
+        hi: grid_corner(cube, depth, cell.x + 1, cell.y + 1, cell.z + 1),
     }
 }
 
-// The corner of the grid after so many parts along each axis.
-fn grid_corner(cube: &Cube, parts: u32, x: u32, y: u32, z: u32) -> Vec3
+/// The cell of a cube's grid at a place in the order of cells, as a closed cube. The corners of the
+/// cube have at most five decimals of a unit and each side is above 0; the grid has the parts of a
+/// depth of at most 7.
+pub fn grid_cell(cube: &Cube, depth: u32, place: u64) -> Cube
     requires cube { IsGridCube cube.now }
-    requires parts { 0 < parts }
-    requires inside { (x ≤ parts) × (y ≤ parts) × (z ≤ parts) }
-    ensures corner { result ≡ corner cube.now parts x y z }
+    requires depth { depth ≤ most_depth }
+    requires place { place < parts_of depth * parts_of depth * parts_of depth }
+    ensures cell { result ≡ cube_of cube.now (parts_of depth) (cell_of (parts_of depth) place) }
+    ensures near { IsCube result }
+{
+    cell_cube(cube, depth, &cell_at(parts(depth), place))
+}
+
+// The corner of the grid of a depth after so many parts along each axis.
+fn grid_corner(cube: &Cube, depth: u32, x: u32, y: u32, z: u32) -> Vec3
+    requires cube { IsGridCube cube.now }
+    requires depth { depth ≤ most_depth }
+    requires inside { (x ≤ parts_of depth) × (y ≤ parts_of depth) × (z ≤ parts_of depth) }
+    ensures corner { result ≡ corner cube.now (parts_of depth) x y z }
     ensures near { IsPointWithin far result }
 {
     Vec3 {
-        x: cut(cube.lo.x, cube.hi.x, parts, x),
-        y: cut(cube.lo.y, cube.hi.y, parts, y),
-        z: cut(cube.lo.z, cube.hi.z, parts, z),
+        x: cut(cube.lo.x, cube.hi.x, depth, x),
+        y: cut(cube.lo.y, cube.hi.y, depth, y),
+        z: cut(cube.lo.z, cube.hi.z, depth, z),
     }
 }
 
-// Where a side of so many parts is cut after the first k of them.
-fn cut(lo: i128, hi: i128, parts: u32, k: u32) -> i128
+// Where a side is cut after the first k of the parts of a depth.
+fn cut(lo: i128, hi: i128, depth: u32, k: u32) -> i128
     requires near { IsWithin far lo × IsWithin far hi }
     requires order { lo ≤ℤ hi }
-    requires parts { 0 < parts }
-    requires inside { k ≤ parts }
-    ensures cut { result ≡ cut lo hi parts k }
+    requires depth { depth ≤ most_depth }
+    requires inside { k ≤ parts_of depth }
+    ensures cut { result ≡ cut lo hi (parts_of depth) k }
     ensures within { (lo ≤ℤ result) × (result ≤ℤ hi) }
 {
-    let part = (hi - lo).unsigned_abs() / parts as u128;
+    let part = (hi - lo).unsigned_abs() >> depth;
     lo + (part * k as u128) as i128
 }

@@ -1,11 +1,11 @@
-ghost use Rattle.std.specs.Prelude.{◌≡◌, ◌*◌, ◌<◌, ◌≤◌, ℕ};
+ghost use Rattle.std.specs.Prelude.{◌≡◌, ◌⊎◌, ◌*◌, ◌<◌, ◌≤◌, ℕ};
 ghost use Rattle.std.specs.Prelude.{List};
 ghost use Rattle.solid_base.specs.declared.geometry.Cube.{Cube};
 ghost use Rattle.solid_base.specs.declared.classes.Verdict.{Verdict};
 ghost use Rattle.volume_bounds.specs.declared.cells.Cell.{Cell};
 ghost use Rattle.volume_bounds.specs.Cells.{parts_of, most_depth, cell_of, place_of, corner};
 ghost use Rattle.volume_bounds.specs.Cells.{IsCell, IsGridCube};
-ghost use Rattle.volume_bounds.specs.Extents.{IsExtent};
+ghost use Rattle.volume_bounds.specs.Extents.{AllOutside, IsExtent};
 
 /// Each cell of a grid stands once in the order of cells, and each place is that of a cell.
 pub fn order()
@@ -23,8 +23,12 @@ pub fn filling()
         corner cube (parts_of depth) (parts_of depth) (parts_of depth) (parts_of depth) ≡ cube.hi }
 {}
 
-/// There is one extent at most.
+/// The cells have one extent, or all are outside, and never both.
 pub fn one_extent()
-    ensures { (verdicts : List Verdict) (cube a b : Cube) (parts : ℕ) →
+    ensures some { (verdicts : List Verdict) (cube : Cube) (parts : ℕ) →
+        ((found : Cube) × IsExtent verdicts cube parts found) ⊎ AllOutside verdicts }
+    ensures once { (verdicts : List Verdict) (cube a b : Cube) (parts : ℕ) →
         IsExtent verdicts cube parts a → IsExtent verdicts cube parts b → a ≡ b }
+    ensures apart { (verdicts : List Verdict) (cube found : Cube) (parts : ℕ) →
+        IsExtent verdicts cube parts found → AllOutside verdicts → ⊥ }
 {}

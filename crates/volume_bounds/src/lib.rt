@@ -12,5 +12,5 @@ pub mod laws;
 mod tests;
 
 pub use bounds::bounds_flat;
-pub use cells::{Cell, cell_at, cell_cube};
+pub use cells::{Cell, cell_at, cell_cube, grid_cell};
 pub use counts::{Count, count_flat};

@@ -29,7 +29,7 @@ returns-in_err-block c =
     rw c.as_slice-verdict-items.ensures at c.loop-place-test.false in
     let none = found_none (parts_of c.args.depth) c.args.verdicts.now.list c.loop-place.place
     c.loop-place.found long c.in_err-block.was c.loop-place.invariant in
-    record { extent = rw c.from_residual.ensures none }
+    record { extent = rw c.from_residual.ensures none; near = rw c.from_residual.ensures tt }
 
 pub cell_cube-requires-clause-cell : goal.cell_cube-requires-clause-cell
 cell_cube-requires-clause-cell c =
@@ -55,4 +55,7 @@ returns c =
     c.loop-place.found _ c.in_ok-block.was c.loop-place.invariant in
     let extent = extent_of c.args.verdicts.now.list c.args.cube.now (parts_of c.args.depth)
     c.loop-place.place _ long block in
-    record { extent = rw (c.cell_cube.ensures.cell, c.cell_cube-2.ensures.cell) extent }
+    record {
+      extent = rw (c.cell_cube.ensures.cell, c.cell_cube-2.ensures.cell) extent;
+      near = (c.cell_cube.ensures.near.0, c.cell_cube-2.ensures.near.1);
+    }
