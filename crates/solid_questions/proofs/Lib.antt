@@ -1,0 +1,12 @@
+pub mod StandardFacts
+pub mod Powers
+pub mod Grids
+pub mod Runs
+pub mod Counts
+pub mod Joins
+pub mod Lines
+pub mod Order
+pub mod OneBody
+pub mod Signs
+pub mod Rounded
+pub mod NearCells

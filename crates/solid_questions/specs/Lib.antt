@@ -1,0 +1,4 @@
+pub mod Questions
+pub mod QuestionCells
+pub mod Refusals
+pub mod Bodies
