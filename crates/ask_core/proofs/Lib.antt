@@ -1,0 +1,11 @@
+pub mod CellCounts
+pub mod CellSteps
+pub mod Refused
+pub mod Evaluated
+pub mod AnswerCases
+pub mod PlaceLaws
+pub mod SectionLaws
+pub mod Counted
+pub mod GridLaws
+pub mod ExtentLaws
+pub mod OneAnswer

@@ -1,0 +1,8 @@
+use Rattle.ask_core.proofs.ExtentLaws.{extents_hold, empty_outside}
+use Rattle.ask_core.proofs.laws.extents.Goals as goal
+
+pub returns : goal.returns
+returns c = record {
+  outside = λ rows e cube depth text rest sound lawful is. extents_hold rows e cube depth text sound lawful is rest;
+  empty = empty_outside;
+}
