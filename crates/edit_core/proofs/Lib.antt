@@ -1,0 +1,12 @@
+pub mod Batches
+pub mod ReadRows
+pub mod Placing
+pub mod Ready
+pub mod ChangeFaults
+pub mod RowsAfter
+pub mod Uses
+pub mod NextVersions
+pub mod Refusals
+pub mod OneOutcome
+pub mod OneVersion
+pub mod StandardFacts

@@ -1,0 +1,7 @@
+use Rattle.std.proofs.Common.{◌≡◌, map, take}
+use Rattle.std.specs.Arc.{arc_value}
+use Rattle.edit_core.proofs.staged_rows.shared.Given as goal
+
+-- the items so far are the same entities
+abbrev pub invariant-loop-item : goal.invariant-loop-item
+invariant-loop-item l = map arc_value l.items.items ≡ map arc_value (take l.item-index l.item-items)

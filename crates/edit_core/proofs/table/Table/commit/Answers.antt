@@ -1,0 +1,43 @@
+use Rattle.std.proofs.Common.{◌≡◌, ◌≤◌, length, sym, subst, refl, arith}
+use Rattle.std.proofs.lemmas.Result.{err_from_is_err_and}
+use Rattle.edit_core.proofs.RowsAfter.{few_after}
+use Rattle.edit_core.proofs.NextVersions.{all_writable}
+use Rattle.edit_core.proofs.Refusals.{change_refused, reference_refused, lines_refused}
+use Rattle.edit_core.proofs.table.Table.commit.Goals as goal
+
+pub returns-in_err-check_begin-clause-first_fault : goal.returns-in_err-check_begin-clause-first_fault
+returns-in_err-check_begin-clause-first_fault c =
+    let p = err_from_is_err_and c.from_residual.result c.from_residual.ensures.1 in
+    let refused = rw c.version.ensures at c.in_err-check_begin.ensures.refused in
+    rw (p.1, p.2) (λ t. refused c.args.self.now.model)
+
+pub returns-in_err-rows-clause-first_fault : goal.returns-in_err-rows-clause-first_fault
+returns-in_err-rows-clause-first_fault c =
+    let p = err_from_is_err_and c.from_residual-in_err-rows.result c.from_residual-in_err-rows.ensures.1 in
+    let may = rw c.version.ensures at c.in_ok-check_begin.ensures.begins in
+    let first = rw c.rows.ensures at c.in_err-rows.ensures.first_fault in
+    rw (p.1, p.2) (λ t. change_refused c.args.self.now.model c.args.self.now.number c.args.batch.now c.in_err-rows.field-0.0 may (first t))
+
+pub graph_after-requires : goal.graph_after-requires
+graph_after-requires c =
+    let made = rw c.rows.ensures at c.in_ok-rows.ensures.after in
+    few_after c.args.self.now.model.rows c.in_ok-rows.rows c.args.batch.now c.obeys.ensures.accepted.few_entities made
+
+pub check_lines-requires : goal.check_lines-requires
+check_lines-requires c = all_writable c.in_ok-rows.rows c.in_ok-rows.ensures.ready
+
+pub returns-in_err-graph-clause-first_fault : goal.returns-in_err-graph-clause-first_fault
+returns-in_err-graph-clause-first_fault c =
+    let p = err_from_is_err_and c.from_residual-in_err-graph.result c.from_residual-in_err-graph.ensures.1 in
+    let may = rw c.version.ensures at c.in_ok-check_begin.ensures.begins in
+    let made = rw c.rows.ensures at c.in_ok-rows.ensures.after in
+    rw (p.1, p.2) (λ t. reference_refused c.args.self.now.model c.args.self.now.number c.args.batch.now c.in_ok-rows.rows c.in_err-graph.field-0.0 may made (c.in_err-graph.ensures.first_fault t))
+
+pub returns-in_err-check_lines-clause-first_fault : goal.returns-in_err-check_lines-clause-first_fault
+returns-in_err-check_lines-clause-first_fault c =
+    let p = err_from_is_err_and c.from_residual-in_err-check_lines.result c.from_residual-in_err-check_lines.ensures.1 in
+    let may = rw c.version.ensures at c.in_ok-check_begin.ensures.begins in
+    let made = rw c.rows.ensures at c.in_ok-rows.ensures.after in
+    let many = c.in_err-check_lines.ensures.many in
+    let model = c.args.self.now.model in
+    rw (p.1, p.2) (λ t. lines_refused model c.args.self.now.number c.args.batch.now c.in_ok-rows.rows c.in_err-check_lines.field-0.0 may made c.in_ok-graph.ensures.sound many.0 (many.1 model.comma model.semi))

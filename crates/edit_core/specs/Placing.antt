@@ -1,0 +1,61 @@
+-- What the code's shortcuts need: rows that are made one change after the other.
+use Rattle.std.specs.Prelude.{◌≡◌, ◌⊎◌, ℕ, zero, suc, ◌-◌, ◌<◌, ◌≤◌, List, [], ◌∷◌}
+use Rattle.std.specs.Prelude.{◌++◌, length, replicate}
+use Rattle.solid_base.specs.declared.entities.Entity.{Entity}
+use Rattle.solid_base.specs.Ranges.{most_whole}
+use Rattle.iges_parameters.specs.Accepted.{IsAcceptedEntity, IsWritable}
+use Rattle.iges_parameters.specs.Writing.{IsOfRecord, matrix_of_row}
+use Rattle.iges_parameters.specs.declared.faults.RowFault.{RowFault}
+use Rattle.iges_parameters.specs.RecordFaults.{IsRecordFaultIn}
+use Rattle.solid_base.specs.declared.entities.RowText.{RowText}
+use Rattle.edit_core.specs.declared.faults.EditFault.{EditFault}
+use Rattle.edit_core.specs.declared.faults.EditFault.TheVariants as fault
+use Rattle.std.specs.List.{AllByRecursion}
+use Rattle.solid_base.specs.References.{Refers}
+use Rattle.entity_graph.specs.declared.graph_faults.GraphFault.{GraphFault}
+use Rattle.entity_graph.specs.FirstFaults.{IsFault}
+use Rattle.edit_core.specs.Batches.{Staged}
+use Rattle.edit_core.specs.EditFaults.{of_graph}
+use Rattle.edit_core.specs.Edits.{null_entity, edit_comma, edit_semi, IsUnused, IsFirstInUse}
+
+-- rows with null ones after them, up to this many
+abbrev pub filled : List Entity → ℕ → List Entity
+filled rows size = rows ++ replicate (size - length rows) null_entity
+
+-- rows with an entity at a place, and null ones between the end and the place
+abbrev pub put : List Entity → ℕ → Entity → List Entity
+put [] zero e = e ∷ []
+put [] (suc place) e = null_entity ∷ put [] place e
+put (x ∷ rows) zero e = e ∷ rows
+put (x ∷ rows) (suc place) e = x ∷ put rows place e
+
+-- an entity that is accepted once its matrix is known to be one of the model
+pub record IsReady (e : Entity) : Type 0 where
+  pub writable : IsWritable e
+  pub accepted : matrix_of_row e.row ≤ most_whole → IsAcceptedEntity e
+  pub known : IsOfRecord e.row ⊎ (matrix_of_row e.row ≤ most_whole)
+
+-- the fault of an edit is that of a staged record for a number
+pub record HasBadRecord (source : RowText) (number : ℕ) (f : EditFault) : Type 0 where
+  pub inner : RowFault
+  pub first : IsRecordFaultIn edit_comma edit_semi source inner
+  pub is : f ≡ fault.BadRecord number inner
+
+-- ---- the references of the rows after a batch
+
+-- no row names a number
+abbrev pub NoneNames : List Entity → ℕ → Type 0
+NoneNames rows number = (e : ℕ) → ¬ Refers rows e number
+
+-- the least row that names a number
+pub record IsFirstNaming (rows : List Entity) (number by : ℕ) : Type 0 where
+  pub names : Refers rows by number
+  pub least : (e : ℕ) → e < by → ¬ Refers rows e number
+
+-- the references of the rows after a batch have this first fault: a dropped number that is still
+-- named, or else what breaks the rules
+pub data IsReferenceFault (batch : List Staged) (after : List Entity) (f : EditFault) : Type 0 where
+  in_use : (de by : ℕ) → f ≡ fault.InUse de by → IsFirstInUse batch after de by
+      → IsReferenceFault batch after f
+  broken : (g : GraphFault) → f ≡ of_graph g → AllByRecursion (IsUnused after) batch
+      → IsFault after g → IsReferenceFault batch after f
