@@ -1,0 +1,8 @@
+pub mod Keys
+pub mod Entries
+pub mod Keeping
+pub mod Kept
+pub mod StoredTest
+pub mod Steps
+pub mod Fronts
+mod StandardFacts

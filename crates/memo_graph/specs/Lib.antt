@@ -1,0 +1,3 @@
+pub mod Digests
+pub mod Memos
+pub mod Stores
