@@ -1,0 +1,4 @@
+pub mod Outcomes
+pub mod Sessions
+pub mod Legal
+pub mod WithoutCommits
