@@ -1,21 +1,20 @@
 -- A check has one answer, to all bytes.
-use Rattle.std.proofs.Common.{◌≡◌, inl, inr, ℕ, zero, suc, ◌+◌, ◌≤◌, List, [], ◌∷◌, length, drop, slice_get, Some, Result, Ok, Err, IfOk, refl, sym, ap, ◌∙◌, arith}
+use Rattle.std.proofs.Common.{◌≡◌, inl, inr, ℕ, zero, suc, ◌+◌, List, [], ◌∷◌, drop, slice_get, Some, Result, Ok, Err, IfOk, refl, sym, ap, ◌∙◌, arith}
 use Rattle.std.specs.declared.alloc.AllocError.{AllocError}
-use Rattle.solid_base.specs.declared.entities.Model.{Model}
 use Rattle.solid_base.specs.declared.entities.Entity.{Entity}
 use Rattle.solid_base.specs.declared.solids.Row.{Row}
 use Rattle.solid_base.specs.declared.solids.Row.TheVariants as row
 use Rattle.iges_file.specs.declared.faults.FileFault.{FileFault}
-use Rattle.iges_file.specs.Files.{Reads, Refused}
+use Rattle.iges_file.specs.Files.{Refused}
 use Rattle.iges_file.proofs.OneOutcome.{one_of_both, reads_once, first_fault, never_both}
-use Rattle.solid_top.specs.declared.checks.Tallies.{Tallies}
+use Rattle.solid_top.specs.declared.report.Tallies.{Tallies}
 use Rattle.solid_top.specs.declared.faults.TopFault.TheVariants as fault
-use Rattle.solid_top.specs.declared.replay.Output.{Output}
+use Rattle.solid_top.specs.declared.outputs.Output.{Output}
 use Rattle.solid_top.specs.declared.statuses.Status.{Status}
 use Rattle.solid_top.specs.declared.statuses.Status.TheVariants as status
-use Rattle.solid_top.specs.Checks.{with_row, tallies_from, IsChecked, check_text}
-use Rattle.solid_top.specs.Replay.{IsRefusal}
-use Rattle.solid_top.specs.TopFaults.{refused_text}
+use Rattle.solid_top.specs.Checks.{with_row, tallies_from, IsChecked, IsCheckOutput, check_text}
+use Rattle.solid_top.specs.TopFaults.{IsRefusal, refused_text}
+use Rattle.solid_top.proofs.StatusLaws.{answered_once}
 
 -- the rows from a place on are the row there and those after it
 pub tallies_next : (t : Tallies) (rows : List Entity) (at : ℕ) (e : Entity) → slice_get rows at ≡ Some e
@@ -35,29 +34,17 @@ counted_once t (row.Assembly items matrix) = omega arith
 counted_once t (row.Instance child matrix) = omega arith
 
 -- bytes are refused as a file with one line
-refusal_once : (bytes a b : List ℕ) → IsRefusal bytes a → IsRefusal bytes b → a ≡ b
+pub refusal_once : (bytes a b : List ℕ) → IsRefusal bytes a → IsRefusal bytes b → a ≡ b
 refusal_once bytes a b (f, r, t) (g, q, u) = t ∙ ap (λ (x : FileFault). refused_text (fault.File x)) (first_fault bytes f g r q) ∙ sym u
 
+pub output_once : (bytes a b : List ℕ) → IsCheckOutput bytes a → IsCheckOutput bytes b → a ≡ b
+output_once bytes a b (m, i, r, x) (n, j, q, y) = x ∙ ap check_text (reads_once bytes m n i j r q).0 ∙ sym y
+
+pub output_or_refusal : (bytes a b : List ℕ) → IsCheckOutput bytes a → IsRefusal bytes b → ⊥
+output_or_refusal bytes a b (m, i, r, x) (f, q, y) = never_both bytes m i f r q
+
 pub checked_once : (bytes : List ℕ) (s t : Status) (a b : List ℕ) → IsChecked bytes s a → IsChecked bytes t b → (s ≡ t) × (a ≡ b)
-checked_once bytes status.Done status.Done a b (m, i, r, x) (n, j, q, y) = (refl, x ∙ ap check_text (reads_once bytes m n i j r q).0 ∙ sym y)
-checked_once bytes status.Done status.Refused a b (m, i, r, x) (f, q, y) = absurd (never_both bytes m i f r q)
-checked_once bytes status.Refused status.Done a b (f, q, y) (m, i, r, x) = absurd (never_both bytes m i f r q)
-checked_once bytes status.Refused status.Refused a b h k = (refl, refusal_once bytes a b h k)
-checked_once bytes status.Done status.Usage a b h k = absurd k
-checked_once bytes status.Done status.Memory a b h k = absurd k
-checked_once bytes status.Done status.ReadFault a b h k = absurd k
-checked_once bytes status.Done status.WriteFault a b h k = absurd k
-checked_once bytes status.Done status.TooLong a b h k = absurd k
-checked_once bytes status.Refused status.Usage a b h k = absurd k
-checked_once bytes status.Refused status.Memory a b h k = absurd k
-checked_once bytes status.Refused status.ReadFault a b h k = absurd k
-checked_once bytes status.Refused status.WriteFault a b h k = absurd k
-checked_once bytes status.Refused status.TooLong a b h k = absurd k
-checked_once bytes status.Usage t a b h k = absurd h
-checked_once bytes status.Memory t a b h k = absurd h
-checked_once bytes status.ReadFault t a b h k = absurd h
-checked_once bytes status.WriteFault t a b h k = absurd h
-checked_once bytes status.TooLong t a b h k = absurd h
+checked_once bytes = answered_once (IsCheckOutput bytes) (IsRefusal bytes) (output_once bytes) (refusal_once bytes) (output_or_refusal bytes)
 
 -- a refusal with the first fault is what is answered
 pub refused_checked : (bytes : List ℕ) (f : FileFault) (result : Result Output AllocError) → Refused bytes f

@@ -1,188 +1,253 @@
--- A replay has one answer.
-use Rattle.std.proofs.Common.{◌≡◌, ◌⊎◌, inl, inr, ℕ, ◌≤◌, List, [], ◌∷◌, ◌++◌, length, drop, codes, decimal, Result, Ok, Err, IsErrAnd, IfOk, OnOk, ap, sym, subst, refl, ◌∙◌, arith, append-nil, append_assoc, length-append}
-use Rattle.std.proofs.lemmas.Fmt.{decimal_digit}
+-- How the lines of a script are answered one after the other, and what a replay answers.
+use Rattle.std.proofs.Common.{◌≡◌, inr, ℕ, ◌+◌, ◌<◌, ◌≤◌, Bool, true, false, not, ◌||◌, List, [], ◌∷◌, ◌++◌, length, map, drop, get_or, set, replicate, Result, Ok, Err, IsErrAnd, IfOk, OnOk, refl, sym, ap, subst, ◌∙◌, arith, append_assoc, append-nil, length-append}
 use Rattle.std.specs.declared.alloc.AllocError.{AllocError}
+use Rattle.std.specs.List.{AllByRecursion}
+use Rattle.solid_base.specs.declared.entities.Entity.{Entity}
 use Rattle.solid_base.specs.declared.entities.Model.{Model}
 use Rattle.solid_base.specs.declared.replies.Reply.{Reply}
-use Rattle.solid_base.specs.Series.{Spells}
-use Rattle.solid_base.proofs.SeriesLaws.{series_same}
+use Rattle.solid_base.specs.Ledgers.{counted, most_count, RisesUpTo}
+use Rattle.solid_base.proofs.Counts.{counted_none, counted_twice}
 use Rattle.iges_file.specs.declared.faults.FileFault.{FileFault}
 use Rattle.iges_file.specs.Files.{Reads, Refused}
-use Rattle.iges_file.proofs.OneOutcome.{one_of_both, reads_once, first_fault, never_both}
+use Rattle.iges_file.proofs.OneOutcome.{reads_once, never_both}
+use Rattle.script_lines.specs.declared.commands.Command.{Command}
+use Rattle.script_lines.specs.declared.commands.Command.TheVariants as command
+use Rattle.script_lines.specs.declared.commands.ScriptLine.{ScriptLine}
+use Rattle.script_lines.specs.Grammar.{IsLine, most_sessions}
+use Rattle.script_lines.specs.Lines.{kept_lines}
+use Rattle.script_lines.specs.Reading.{line_in}
+use Rattle.script_lines.specs.Scripts.{IsLawfulLine, IsScript}
+use Rattle.script_lines.proofs.LineRead as lines_read
+use Rattle.script_lines.proofs.OneLine.{lines_once}
 use Rattle.solid_top.specs.declared.faults.TopFault.TheVariants as fault
-use Rattle.solid_top.specs.declared.questions.PointQuestion.{PointQuestion}
-use Rattle.solid_top.specs.declared.replay.Output.{Output}
+use Rattle.solid_top.specs.declared.outputs.Output.{Output}
+use Rattle.solid_top.specs.declared.sessions.SessionReplies.{SessionReplies}
 use Rattle.solid_top.specs.declared.statuses.Status.{Status}
 use Rattle.solid_top.specs.declared.statuses.Status.TheVariants as status
-use Rattle.solid_top.specs.Answers.{Answer, AreAnswers, all_evaluations, most_evaluations, replay_text}
-use Rattle.solid_top.specs.FormReading.{point_at}
-use Rattle.solid_base.specs.Ledgers.{counted, RisesUpTo}
-use Rattle.solid_top.specs.Models.{Asks, IsReplay, IsNotBuilt}
-use Rattle.solid_top.specs.Output.{session_text, output_text}
-use Rattle.solid_top.specs.Points.{IsPointLine}
-use Rattle.solid_top.specs.Replay.{CountsReplay, IsReplayed}
+use Rattle.solid_top.specs.Replay.{IsReplay, IsReplayed, CountsReplay}
+use Rattle.solid_top.specs.Replies.{AreReplies, AreWork, IsReply, IsWork, has_unanswered, is_answered, most_work, most_works}
+use Rattle.solid_top.specs.Sessions.{KeepAll, no_replies, with_reply}
 use Rattle.solid_top.specs.TopFaults.{refused_text}
-use Rattle.solid_top.proofs.ScriptLaws.{nothing_read}
-use Rattle.solid_top.proofs.Deciding.{AsksFrom, asks_or_not}
-use Rattle.solid_top.proofs.OneAnswer.{answers_once, answers_some}
-use Rattle.solid_top.proofs.PointLaws.{point_reader}
+use Rattle.ask_core.proofs.OneAnswer.{evaluates_once}
+use Rattle.solid_top.proofs.SessionLaws.{keep_none, keep_push}
 
--- the text of a run without commits in which session 1 alone has lines, by its parts
-pub output_joined : (all : List Reply) (one two three : List ℕ) → one ≡ codes "LOG 0\n" → two ≡ one ++ session_text 1 all → three ≡ two ++ codes "END\n" → three ≡ output_text [] ([] ∷ all ∷ [])
-output_joined all one two three a b c =
-    let zero_text : decimal 0 ≡ codes "0" = decimal_digit 0 (omega arith) in
-    let joined : three ≡ (codes "LOG 0\n" ++ session_text 1 all) ++ codes "END\n" = c ∙ ap (λ t. t ++ codes "END\n") (b ∙ ap (λ t. t ++ session_text 1 all) a) in
-    joined ∙ append_assoc (codes "LOG 0\n") (session_text 1 all) (codes "END\n")
-    ∙ ap (λ t. codes "LOG 0\n" ++ (t ++ codes "END\n")) (sym (append-nil (session_text 1 all)))
-    ∙ ap (λ t. codes "LOG " ++ (t ++ (codes "\n" ++ ((session_text 1 all ++ []) ++ codes "END\n")))) (sym zero_text)
+-- ---- the lines of a script
 
--- bytes ask one list of questions
-asked_once : (script : List ℕ) (questions asked : List PointQuestion) → Spells IsPointLine 0 script questions → Spells IsPointLine 0 script asked → questions ≡ asked
-asked_once script questions asked h k =
-    let (lines, end) = series_same IsPointLine (λ k. point_at) point_reader 0 script script [] [] questions asked h k refl nothing_read nothing_read in
-    lines
+-- bytes are one script
+pub script_some : (bytes : List ℕ) → (lines : List ScriptLine) × IsScript bytes lines
+script_some bytes = (map line_in (kept_lines bytes), lines_read.script_some bytes)
 
--- bytes are a file of one model and ask one list of questions
-pub replay_once : (bytes : List ℕ) (model other : Model) (questions asked : List PointQuestion) → IsReplay bytes model questions → IsReplay bytes other asked → (model ≡ other) × (questions ≡ asked)
-replay_once bytes model other questions asked h k =
+script_once : (bytes : List ℕ) (a b : List ScriptLine) → IsScript bytes a → IsScript bytes b → a ≡ b
+script_once bytes a b h k = lines_once (kept_lines bytes) a b h k
+
+-- a line in front of those after it
+pub next_line : (rest left text : List ℕ) (line : ScriptLine) → kept_lines rest ≡ text ∷ kept_lines left → IsLine text line
+    → (after : List ScriptLine) → IsScript left after → IsScript rest (line ∷ after)
+next_line rest left text line kept is after more = lines_read.one_more rest left text line after kept is more
+
+-- ---- lists of lines
+
+replies_push : (rows : List Entity) (lines : List ScriptLine) (replies : List Reply) (line : ScriptLine) (reply : Reply) → AreReplies rows lines replies → IsReply rows line.command reply
+    → AreReplies rows (lines ++ line ∷ []) (replies ++ reply ∷ [])
+replies_push rows [] [] line reply h k = (k, tt)
+replies_push rows [] (r ∷ rs) line reply h k = absurd h
+replies_push rows (l ∷ ls) [] line reply h k = absurd h
+replies_push rows (l ∷ ls) (r ∷ rs) line reply h k = (h.0, replies_push rows ls rs line reply h.1 k)
+
+lawful_push : (lines : List ScriptLine) (line : ScriptLine) → AllByRecursion IsLawfulLine lines → IsLawfulLine line → AllByRecursion IsLawfulLine (lines ++ line ∷ [])
+lawful_push [] line h k = (k, tt)
+lawful_push (l ∷ ls) line h k = (h.0, lawful_push ls line h.1 k)
+
+work_push : (rows : List Entity) (lines : List ScriptLine) (line : ScriptLine) (work more : ℕ) → AreWork rows lines work → IsWork rows line.command more → AreWork rows (lines ++ line ∷ []) (work + more)
+work_push rows [] line work more h k = (more, 0, k, refl, omega (arith, h))
+work_push rows (l ∷ ls) line work more (first, others, f, o, e) k = (first, others + more, f, work_push rows ls line others more o k, omega (arith, e))
+
+works_append : (rows : List Entity) (lines after : List ScriptLine) → most_works rows (lines ++ after) ≡ most_works rows lines + most_works rows after
+works_append rows [] after = omega arith
+works_append rows (l ∷ ls) after = omega (arith, works_append rows ls after)
+
+-- no line more, and one line more
+pub none_more : (rows : List Entity) (ticks : ℕ) → RisesUpTo ticks ticks (most_works rows [])
+none_more rows ticks = (omega arith, omega arith)
+
+pub one_more : (rows : List Entity) (line : ScriptLine) (ticks now : ℕ) → RisesUpTo ticks now (most_work rows line.command) → RisesUpTo ticks now (most_works rows (line ∷ []))
+one_more rows line ticks now h = (h.0, omega (arith, h.1))
+
+or_right : (a b : Bool) → b ≡ true → (a || b) ≡ true
+or_right true b e = refl
+or_right false b e = e
+
+-- a line that isn't answered stands among lines
+some_unanswered : (lines : List ScriptLine) (line : ScriptLine) (after : List ScriptLine) → is_answered line.command ≡ false → has_unanswered (lines ++ line ∷ after) ≡ true
+some_unanswered [] line after e = ap (λ (b : Bool). not b || has_unanswered after) e
+some_unanswered (l ∷ ls) line after e = or_right (not (is_answered l.command)) (has_unanswered (ls ++ line ∷ after)) (some_unanswered ls line after e)
+
+-- the replies to a line, and to lines, take one number of evaluations
+line_work_once : (rows : List Entity) (c : Command) (m n : ℕ) → IsWork rows c m → IsWork rows c n → m ≡ n
+line_work_once rows (command.Ask q live) m n h k = evaluates_once rows q m n h k
+line_work_once rows (command.Replace de r) m n h k = absurd h
+line_work_once rows (command.Add de r) m n h k = absurd h
+line_work_once rows (command.Drop de) m n h k = absurd h
+line_work_once rows command.Commit m n h k = absurd h
+line_work_once rows (command.Bad f) m n h k = h ∙ sym k
+
+work_once : (rows : List Entity) (lines : List ScriptLine) (m n : ℕ) → AreWork rows lines m → AreWork rows lines n → m ≡ n
+work_once rows [] m n h k = h ∙ sym k
+work_once rows (l ∷ ls) m n (a, b, f, o, e) (c, d, g, p, e') =
+    let one = line_work_once rows l.command a c f g in
+    let others = work_once rows ls b d o p in
+    omega (arith, e, e', one, others)
+
+-- ---- the lines so far
+
+-- the lines before the rest of a script are answered, and their replies kept and counted
+pub record Gathered (rows : List Entity) (script rest : List ℕ) (sessions : List SessionReplies) (start ticks : ℕ) : Type 0 where
+  pub lines : List ScriptLine
+  pub replies : List Reply
+  pub work : ℕ
+  pub begins : (after : List ScriptLine) → IsScript rest after → IsScript script (lines ++ after)
+  pub are : AreReplies rows lines replies
+  pub works : AreWork rows lines work
+  pub ticked : ticks ≡ counted start work
+  pub most : RisesUpTo start ticks (most_works rows lines)
+  pub few : length lines + length rest ≤ length script
+  pub lawful : AllByRecursion IsLawfulLine lines
+  pub kept : KeepAll sessions lines replies
+
+pub gathered_none : (rows : List Entity) (script : List ℕ) (sessions : List SessionReplies) (start : ℕ) → start ≤ most_count → sessions ≡ replicate (most_sessions + 1) no_replies
+    → Gathered rows script script sessions start start
+gathered_none rows script sessions start bounded same = record {
+  lines = [];
+  replies = [];
+  work = 0;
+  begins = λ after is. is;
+  are = tt;
+  works = refl;
+  ticked = sym (counted_none start bounded);
+  most = (omega arith, omega arith);
+  few = omega arith;
+  lawful = tt;
+  kept = keep_none sessions same;
+}
+
+module _ (rows : List Entity) (script rest : List ℕ) (sessions : List SessionReplies) (start ticks : ℕ) (g : Gathered rows script rest sessions start ticks) where
+  -- one line more
+  pub gathered_push : (left : List ℕ) (new : List SessionReplies) (now : ℕ) (line : ScriptLine) (reply : Reply) (count : ℕ)
+      → ((after : List ScriptLine) → IsScript left after → IsScript rest (line ∷ after)) → length left < length rest → IsLawfulLine line
+      → IsReply rows line.command reply → new ≡ set sessions line.session (with_reply (get_or sessions line.session no_replies) reply)
+      → IsWork rows line.command count → now ≡ counted ticks count → RisesUpTo ticks now (most_work rows line.command)
+      → Gathered rows script left new start now
+  gathered_push left new now line reply count next shorter lawful is same takes ticked rises = record {
+    lines = g.lines ++ line ∷ [];
+    replies = g.replies ++ reply ∷ [];
+    work = g.work + count;
+    begins = λ after h. subst (λ (xs : List ScriptLine). IsScript script xs) (sym (append_assoc g.lines (line ∷ []) after)) (g.begins (line ∷ after) (next after h));
+    are = replies_push rows g.lines g.replies line reply g.are is;
+    works = work_push rows g.lines line g.work count g.works takes;
+    ticked = ticked ∙ ap (λ (n : ℕ). counted n count) g.ticked ∙ counted_twice start g.work count;
+    most = (let sum = works_append rows g.lines (line ∷ []) in (omega (arith, g.most.0, rises.0), omega (arith, g.most.1, rises.1, sum)));
+    few = omega (arith, g.few, shorter, length-append g.lines (line ∷ []));
+    lawful = lawful_push g.lines line g.lawful lawful;
+    kept = keep_push rows sessions new g.lines g.replies line reply g.are g.kept (omega (arith, lawful.0)) same;
+  }
+
+  -- as many evaluations as may be made for all lines, where some more lines may have been answered
+  pub within_most : (more : List ScriptLine) (left : List ℕ) (now : ℕ) → ((after : List ScriptLine) → IsScript left after → IsScript rest (more ++ after))
+      → RisesUpTo ticks now (most_works rows more) → (all : List ScriptLine) → IsScript script all → RisesUpTo start now (most_works rows all)
+  within_most more left now next rises all whole =
+      let (after, is) = script_some left in
+      let same : all ≡ g.lines ++ (more ++ after) = script_once script all (g.lines ++ (more ++ after)) whole (g.begins (more ++ after) (next after is)) in
+      let sum : most_works rows all ≡ most_works rows g.lines + (most_works rows more + most_works rows after) =
+      ap (most_works rows) same ∙ works_append rows g.lines (more ++ after) ∙ ap (λ (n : ℕ). most_works rows g.lines + n) (works_append rows more after) in
+      (omega (arith, g.most.0, rises.0), omega (arith, g.most.1, rises.1, sum))
+
+  -- a line that isn't answered
+  pub stops_unanswered : (left : List ℕ) (line : ScriptLine) → ((after : List ScriptLine) → IsScript left after → IsScript rest (line ∷ after)) → is_answered line.command ≡ false
+      → (lines : List ScriptLine) × IsScript script lines × (has_unanswered lines ≡ true)
+  stops_unanswered left line next e =
+      let (after, is) = script_some left in
+      (g.lines ++ line ∷ after, g.begins (line ∷ after) (next after is), some_unanswered g.lines line after e)
+
+  -- the end of the script
+  pub gathered_all : IsScript rest [] → IsScript script g.lines
+  gathered_all end = subst (λ (xs : List ScriptLine). IsScript script xs) (append-nil g.lines) (g.begins [] end)
+
+-- ---- a replay
+
+-- bytes are a file of one model and a script with one list of lines
+pub replay_once : (bytes : List ℕ) (model other : Model) (lines others : List ScriptLine) → IsReplay bytes model lines → IsReplay bytes other others → (model ≡ other) × (lines ≡ others)
+replay_once bytes model other lines others h k =
     let (same, end) = reads_once bytes model other h.end k.end h.reads k.reads in
-    (same, asked_once (drop h.end bytes) questions asked h.lines (subst (λ (n : ℕ). Asks bytes n asked) (sym end) k.lines))
-
-replay_not_wrong : (bytes : List ℕ) (model : Model) (questions : List PointQuestion) → IsReplay bytes model questions → IsNotBuilt bytes → ⊥
-replay_not_wrong bytes model questions h w =
-    let (same, end) = reads_once bytes model w.model h.end w.end h.reads w.reads in
-    w.wrong questions (subst (λ (n : ℕ). Asks bytes n questions) end h.lines)
-
--- a replay that is answered is not refused
-done_not_refused : (bytes text other : List ℕ) → IsReplayed bytes status.Done text → IsReplayed bytes status.Refused other → ⊥
-done_not_refused bytes text other (model, questions, answers, h, a, t) (inl (f, refused, e)) = never_both bytes model h.end f h.reads refused
-done_not_refused bytes text other (model, questions, answers, h, a, t) (inr (w, e)) = replay_not_wrong bytes model questions h w
-
-refused_once : (bytes text other : List ℕ) → IsReplayed bytes status.Refused text → IsReplayed bytes status.Refused other → text ≡ other
-refused_once bytes text other (inl (f, refused, e)) (inl (g, refused', e')) = e ∙ ap (λ (k : FileFault). refused_text (fault.File k)) (first_fault bytes f g refused refused') ∙ sym e'
-refused_once bytes text other (inl (f, refused, e)) (inr (w, e')) = absurd (never_both bytes w.model w.end f w.reads refused)
-refused_once bytes text other (inr (w, e)) (inl (f, refused, e')) = absurd (never_both bytes w.model w.end f w.reads refused)
-refused_once bytes text other (inr (w, e)) (inr (w', e')) = e ∙ sym e'
-
-done_once : (bytes text other : List ℕ) → IsReplayed bytes status.Done text → IsReplayed bytes status.Done other → text ≡ other
-done_once bytes text other (model, questions, answers, h, a, t) (model', questions', answers', h', a', t') =
-    let (same, lines) = replay_once bytes model model' questions questions' h h' in
-    let moved : AreAnswers model'.rows questions' answers = subst (λ (q : List PointQuestion). AreAnswers model'.rows q answers) lines (subst (λ (m : Model). AreAnswers m.rows questions answers) same a) in
-    t ∙ ap (λ (all : List Answer). replay_text all) (answers_once model'.rows questions' answers answers' moved a') ∙ sym t'
-
--- a replay of bytes answers one status and one text
-pub replayed_once : (bytes : List ℕ) (s t : Status) (a b : List ℕ) → IsReplayed bytes s a → IsReplayed bytes t b → (s ≡ t) × (a ≡ b)
-replayed_once bytes status.Done status.Done a b h k = (refl, done_once bytes a b h k)
-replayed_once bytes status.Done status.Refused a b h k = absurd (done_not_refused bytes a b h k)
-replayed_once bytes status.Refused status.Done a b h k = absurd (done_not_refused bytes b a k h)
-replayed_once bytes status.Refused status.Refused a b h k = (refl, refused_once bytes a b h k)
-replayed_once bytes status.Done status.Usage a b h k = absurd k
-replayed_once bytes status.Done status.Memory a b h k = absurd k
-replayed_once bytes status.Done status.ReadFault a b h k = absurd k
-replayed_once bytes status.Done status.WriteFault a b h k = absurd k
-replayed_once bytes status.Done status.TooLong a b h k = absurd k
-replayed_once bytes status.Refused status.Usage a b h k = absurd k
-replayed_once bytes status.Refused status.Memory a b h k = absurd k
-replayed_once bytes status.Refused status.ReadFault a b h k = absurd k
-replayed_once bytes status.Refused status.WriteFault a b h k = absurd k
-replayed_once bytes status.Refused status.TooLong a b h k = absurd k
-replayed_once bytes status.Usage t a b h k = absurd h
-replayed_once bytes status.Memory t a b h k = absurd h
-replayed_once bytes status.ReadFault t a b h k = absurd h
-replayed_once bytes status.WriteFault t a b h k = absurd h
-replayed_once bytes status.TooLong t a b h k = absurd h
-
--- what a replay answers to a file
-file_replayed : (bytes : List ℕ) (model : Model) (end : ℕ) → Reads bytes model end → AsksFrom 0 (drop end bytes) ⊎ (AsksFrom 0 (drop end bytes) → ⊥) → (s : Status) × (text : List ℕ) × IsReplayed bytes s text
-file_replayed bytes model end reads (inl (questions, lines)) =
-    let (answers, are) = answers_some model.rows questions in
-    (status.Done, replay_text answers, (model, questions, answers, record { end = end; reads = reads; lines = lines }, are, refl))
-file_replayed bytes model end reads (inr never) =
-    (status.Refused, refused_text fault.NotBuilt, inr (record { model = model; end = end; reads = reads; wrong = λ questions lines. never (questions, lines) }, refl))
-
-bytes_replayed : (bytes : List ℕ) → ((model : Model) × (end : ℕ) × Reads bytes model end) ⊎ ((f : FileFault) × Refused bytes f) → (s : Status) × (text : List ℕ) × IsReplayed bytes s text
-bytes_replayed bytes (inl (model, end, reads)) = file_replayed bytes model end reads (asks_or_not (drop end bytes))
-bytes_replayed bytes (inr (f, refused)) = (status.Refused, refused_text (fault.File f), inl (f, refused, refl))
-
--- a replay of any bytes answers something
-pub replayed_some : (bytes : List ℕ) → (s : Status) × (text : List ℕ) × IsReplayed bytes s text
-replayed_some bytes = bytes_replayed bytes (one_of_both bytes)
+    (same, script_once (drop h.end bytes) lines others h.script (subst (λ (n : ℕ). IsScript (drop n bytes) others) (sym end) k.script))
 
 -- ---- what code gives
 
--- the bytes are refused as a file
-pub file_refused : (r : Result Output AllocError) (bytes : List ℕ) (f : FileFault) → Refused bytes f → IfOk r (λ out. out.status ≡ status.Refused) → IfOk r (λ out. out.text ≡ refused_text (fault.File f))
-    → IfOk r (λ out. IsReplayed bytes out.status out.text)
-file_refused (Ok out) bytes f h s t = subst (λ (v : Status). IsReplayed bytes v out.text) (sym s) (inl (f, h, t))
-file_refused (Err e) bytes f h s t = tt
-
--- a line after the file asks no question
-pub not_built : (r : Result Output AllocError) (bytes : List ℕ) (model : Model) (end : ℕ) → Reads bytes model end → ((questions : List PointQuestion) → Asks bytes end questions → ⊥)
+-- a line isn't answered
+pub not_built : (r : Result Output AllocError) (bytes : List ℕ) (model : Model) (lines : List ScriptLine) → IsReplay bytes model lines → has_unanswered lines ≡ true
     → IfOk r (λ out. out.status ≡ status.Refused) → IfOk r (λ out. out.text ≡ refused_text fault.NotBuilt) → IfOk r (λ out. IsReplayed bytes out.status out.text)
-not_built (Ok out) bytes model end reads wrong s t =
-    subst (λ (v : Status). IsReplayed bytes v out.text) (sym s) (inr (record { model = model; end = end; reads = reads; wrong = wrong }, t))
-not_built (Err e) bytes model end reads wrong s t = tt
+not_built (Ok out) bytes model lines is some s t =
+    subst (λ (v : Status). IsReplayed bytes v out.text) (sym s) (inr (record { model = model; lines = lines; input = is; some = some }, t))
+not_built (Err e) bytes model lines is some s t = tt
+
+-- ---- how evaluations are counted
 
 -- what always holds holds on Ok
 on_ok_always : {T E P : Type 0} (result : Result T E) → P → OnOk result P
 on_ok_always (Ok x) p = p
 on_ok_always (Err e) p = tt
 
--- ---- how evaluations are counted
-
--- where the bytes are refused
-pub counts_none : {T E : Type 0} (bytes : List ℕ) (count : ℕ) (result : Result T E)
-    → ((model : Model) (questions : List PointQuestion) → IsReplay bytes model questions → ⊥) → CountsReplay bytes count count result
-counts_none bytes count result other = record {
+-- where the bytes are refused as a file
+pub counts_none : {T E : Type 0} (bytes : List ℕ) (f : FileFault) (count : ℕ) (result : Result T E) → Refused bytes f → CountsReplay bytes count count result
+counts_none bytes f count result refused = record {
   never_falls = omega arith;
-  exact = λ model questions answers is are. absurd (other model questions is);
-  most = λ model questions is. (omega arith, omega arith);
+  exact = λ model lines work is answered are. absurd (never_both bytes model is.end f is.reads refused);
+  most = λ model lines is. (omega arith, omega arith);
   none = λ other. refl;
 }
 
--- bytes that are refused as a file ask no points, nor does a file after which other lines stand
-pub refused_asks : (bytes : List ℕ) (f : FileFault) → Refused bytes f → (model : Model) (questions : List PointQuestion) → IsReplay bytes model questions → ⊥
-refused_asks bytes f refused model questions is = never_both bytes model is.end f is.reads refused
+module _ (bytes : List ℕ) (model : Model) (end old new : ℕ) (reads : Reads bytes model end)
+    (most : (lines : List ScriptLine) → IsScript (drop end bytes) lines → RisesUpTo old new (most_works model.rows lines)) where
+  all_lines : (lines : List ScriptLine) × IsScript (drop end bytes) lines
+  all_lines = script_some (drop end bytes)
 
-pub wrong_asks : (bytes : List ℕ) (model : Model) (end : ℕ) → Reads bytes model end → ((questions : List PointQuestion) → Asks bytes end questions → ⊥)
-    → (other : Model) (asked : List PointQuestion) → IsReplay bytes other asked → ⊥
-wrong_asks bytes model end reads wrong other asked is = replay_not_wrong bytes other asked is (record { model = model; end = end; reads = reads; wrong = wrong })
+  is_replay : IsReplay bytes model all_lines.0
+  is_replay = record { end = end; reads = reads; script = all_lines.1 }
 
-module _ (bytes : List ℕ) (model : Model) (questions : List PointQuestion) (is : IsReplay bytes model questions) (old new : ℕ)
-    (most : RisesUpTo old new (most_evaluations model.rows questions)) where
-  same_most : (other : Model) (asked : List PointQuestion) → IsReplay bytes other asked → RisesUpTo old new (most_evaluations other.rows asked)
-  same_most other asked h =
-      let (same, lines) = replay_once bytes model other questions asked is h in
-      subst (λ (q : List PointQuestion). RisesUpTo old new (most_evaluations other.rows q)) lines
-      (subst (λ (m : Model). RisesUpTo old new (most_evaluations m.rows questions)) same most)
+  any_most : (other : Model) (lines : List ScriptLine) → IsReplay bytes other lines → RisesUpTo old new (most_works other.rows lines)
+  any_most other lines h =
+      let (same, here) = replay_once bytes model other all_lines.0 lines is_replay h in
+      subst (λ (xs : List ScriptLine). RisesUpTo old new (most_works other.rows xs)) here
+      (subst (λ (m : Model). RisesUpTo old new (most_works m.rows all_lines.0)) same (most all_lines.0 all_lines.1))
 
-  -- where memory was wanting for an answer
-  pub counts_most : {T E : Type 0} (result : Result T E) (Is : E → Type 0) → IsErrAnd result Is → CountsReplay bytes old new result
-  counts_most (Ok x) Is failed = absurd failed
-  counts_most (Err e) Is failed = record {
-    never_falls = most.0;
-    exact = λ other asked answers h are. tt;
-    most = same_most;
-    none = λ other. absurd (other model questions is);
-  }
-
-  -- where all is answered
-  pub counts_exact : {T E : Type 0} (result : Result T E) (answers : List Answer) → AreAnswers model.rows questions answers → new ≡ counted old (all_evaluations answers)
+  -- by what is counted where all lines are answered
+  pub counts : {T E : Type 0} (result : Result T E)
+      → ((lines : List ScriptLine) (work : ℕ) → IsScript (drop end bytes) lines → has_unanswered lines ≡ false → AreWork model.rows lines work → OnOk result (new ≡ counted old work))
       → CountsReplay bytes old new result
-  counts_exact result answers are ticked = record {
-    never_falls = most.0;
-    exact = λ other asked others h k. (let (same, lines) = replay_once bytes model other questions asked is h in
-        let moved : AreAnswers other.rows asked answers = subst (λ (q : List PointQuestion). AreAnswers other.rows q answers) lines (subst (λ (m : Model). AreAnswers m.rows questions answers) same are) in
-        on_ok_always result (ticked ∙ ap (λ (all : List Answer). counted old (all_evaluations all)) (answers_once other.rows asked answers others moved k)));
-    most = same_most;
-    none = λ other. absurd (other model questions is);
+  counts result exact = record {
+    never_falls = (any_most model all_lines.0 is_replay).0;
+    exact = λ other lines work h answered are. (let (same, here) = replay_once bytes other model lines all_lines.0 h is_replay in
+        let script : IsScript (drop end bytes) lines = subst (λ (xs : List ScriptLine). IsScript (drop end bytes) xs) (sym here) all_lines.1 in
+        exact lines work script answered (subst (λ (m : Model). AreWork m.rows lines work) same are));
+    most = any_most;
+    none = λ other. absurd (other model all_lines.0 is_replay);
   }
 
--- ---- rows
+  -- out of memory
+  pub counts_failed : {T E : Type 0} (result : Result T E) (Is : E → Type 0) → IsErrAnd result Is → CountsReplay bytes old new result
+  counts_failed (Ok x) Is failed = absurd failed
+  counts_failed (Err e) Is failed = counts (Err e) (λ lines work script answered are. tt)
 
--- where a file ends is a place in its bytes
-pub end_within : (bytes : List ℕ) (model : Model) (end : ℕ) → Reads bytes model end → end ≤ length bytes
-end_within bytes model end h =
-    let f = h.form in
-    let whole = ap (λ (t : List ℕ). length t) f.spelt in
-    omega (arith, h.place, f.end, whole, length-append f.sections_text (f.terminate_text ++ f.rest), length-append f.terminate_text f.rest)
+  -- a line isn't answered
+  pub counts_unanswered : {T E : Type 0} (result : Result T E) (lines : List ScriptLine) → IsScript (drop end bytes) lines → has_unanswered lines ≡ true → CountsReplay bytes old new result
+  counts_unanswered result lines script some =
+      counts result (λ others work h answered are. (let same : lines ≡ others = script_once (drop end bytes) lines others script h in
+      let bad : true ≡ false = sym some ∙ ap has_unanswered same ∙ answered in
+      cc))
+
+  -- all lines are answered
+  pub counts_answered : {T E : Type 0} (result : Result T E) (lines : List ScriptLine) (work : ℕ) → IsScript (drop end bytes) lines → AreWork model.rows lines work → new ≡ counted old work
+      → CountsReplay bytes old new result
+  counts_answered result lines work script works ticked =
+      counts result (λ others count h answered are. (let same : lines ≡ others = script_once (drop end bytes) lines others script h in
+      let once : work ≡ count = work_once model.rows others work count (subst (λ (xs : List ScriptLine). AreWork model.rows xs work) same works) are in
+      on_ok_always result (ticked ∙ ap (λ (n : ℕ). counted old n) once)))

@@ -11,7 +11,7 @@ use Rattle.solid_top.specs.Commands.{word_of, Names, IsCommand, Answers, usage_t
 use Rattle.solid_top.specs.Run.{IsInput, Comes, ComesOf, Finishes, Ends, IsRun, IsDue, EndsDue}
 use Rattle.solid_top.specs.Streams.{AppendsFront, IsLongRead, IsShortRead, most_bytes}
 use Rattle.solid_top.proofs.CheckLaws.{checked_once}
-use Rattle.solid_top.proofs.ReplayLaws.{replayed_once}
+use Rattle.solid_top.proofs.ReplayOnce.{replayed_once}
 
 module _ (words : List (List ℕ)) (left left' : Option (List ℕ)) (reads reads' : ℕ)
     (held held' : Option (List ℕ)) (writes writes' : ℕ) (source : SameKnown left left') (sink : SameKnown held held') where
@@ -42,16 +42,11 @@ module _ (words : List (List ℕ)) (left left' : Option (List ℕ)) (reads reads
   comes_answered : (c : Command) (bytes : List ℕ) (s : Status) (text : List ℕ) → Names words c → IsInput left left' bytes → Answers c bytes s text → Comes words left left' s text
   comes_answered c bytes status.Done text named input h = record { named = c; words_are = named; bytes = bytes; input = input; answers = h }
   comes_answered c bytes status.Refused text named input h = record { named = c; words_are = named; bytes = bytes; input = input; answers = h }
-  comes_answered command.Check bytes status.Usage text named input h = absurd h
-  comes_answered command.Check bytes status.Memory text named input h = absurd h
-  comes_answered command.Check bytes status.ReadFault text named input h = absurd h
-  comes_answered command.Check bytes status.WriteFault text named input h = absurd h
-  comes_answered command.Check bytes status.TooLong text named input h = absurd h
-  comes_answered command.Replay bytes status.Usage text named input h = absurd h
-  comes_answered command.Replay bytes status.Memory text named input h = absurd h
-  comes_answered command.Replay bytes status.ReadFault text named input h = absurd h
-  comes_answered command.Replay bytes status.WriteFault text named input h = absurd h
-  comes_answered command.Replay bytes status.TooLong text named input h = absurd h
+  comes_answered c bytes status.Usage text named input h = absurd h
+  comes_answered c bytes status.Memory text named input h = absurd h
+  comes_answered c bytes status.ReadFault text named input h = absurd h
+  comes_answered c bytes status.WriteFault text named input h = absurd h
+  comes_answered c bytes status.TooLong text named input h = absurd h
 
   -- an input that was read is answered, or out of memory
   pub answered : (c : Command) (bytes : List ℕ) (result : Status) → Names words c → IsInput left left' bytes → reads' ≡ reads
@@ -61,7 +56,7 @@ module _ (words : List (List ℕ)) (left left' : Option (List ℕ)) (reads reads
   answered c bytes result named input r h =
       elim h [
         | inl memory ↦ (let (same, k, kept) = memory in
-            subst EndsAs (sym same) (record { ends = ((c, named), (bytes, input.fits, input.read), kept); reading = r; writing = k; source = source; sink = sink }))
+            subst EndsAs (sym same) (record { ends = inr ((c, named), (bytes, input.fits, input.read), kept); reading = r; writing = k; source = source; sink = sink }))
         | inr done ↦ (let (s, text, a, f) = done in finished s result text (comes_answered c bytes s text named input a) r f)
       ]
 
@@ -130,7 +125,7 @@ module _ (words : List (List ℕ)) (left left' held held' : Option (List ℕ)) w
   abbrev EndsWith : Status → Type 0
   EndsWith s = Ends words left left' held held' s
 
-  -- a usage line exactly where the words are no command, unless a write failed
+  -- a usage line exactly where the words are no command, unless a write failed or it was out of memory
   pub usage_only : (result : Status) → EndsWith result → result ≡ status.Usage → IsCommand words → ⊥
   usage_only status.Usage e same = e.1.0
   usage_only status.Done e same = cc
@@ -140,14 +135,14 @@ module _ (words : List (List ℕ)) (left left' held held' : Option (List ℕ)) w
   usage_only status.WriteFault e same = cc
   usage_only status.TooLong e same = cc
 
-  pub usage_else : (result : Status) → EndsWith result → result ≢ status.WriteFault → (IsCommand words → ⊥) → result ≡ status.Usage
-  usage_else status.Usage e ok none = refl
-  usage_else status.Done e ok none = absurd (none (e.1.named, e.1.words_are))
-  usage_else status.Refused e ok none = absurd (none (e.1.named, e.1.words_are))
-  usage_else status.Memory e ok none = absurd (none e.0)
-  usage_else status.ReadFault e ok none = absurd (none e.0)
-  usage_else status.WriteFault e ok none = absurd (ok refl)
-  usage_else status.TooLong e ok none = absurd (none e.1.0)
+  pub usage_else : (result : Status) → EndsWith result → result ≢ status.WriteFault → result ≢ status.Memory → (IsCommand words → ⊥) → result ≡ status.Usage
+  usage_else status.Usage e ok more none = refl
+  usage_else status.Done e ok more none = absurd (none (e.1.named, e.1.words_are))
+  usage_else status.Refused e ok more none = absurd (none (e.1.named, e.1.words_are))
+  usage_else status.Memory e ok more none = absurd (more refl)
+  usage_else status.ReadFault e ok more none = absurd (none e.0)
+  usage_else status.WriteFault e ok more none = absurd (ok refl)
+  usage_else status.TooLong e ok more none = absurd (none e.1.0)
 
   unread_case : (s : Status) (text : List ℕ) → Comes words left left' s text → (IsCommand words → ⊥) → Keeps left left'
   unread_case status.Usage text c none = c.1
@@ -163,14 +158,16 @@ module _ (words : List (List ℕ)) (left left' held held' : Option (List ℕ)) w
   unread status.Usage e none = unread_case status.Usage e.0 e.1 none
   unread status.Done e none = absurd (none (e.1.named, e.1.words_are))
   unread status.Refused e none = absurd (none (e.1.named, e.1.words_are))
-  unread status.Memory e none = absurd (none e.0)
+  unread status.Memory (inl e) none = e.0
+  unread status.Memory (inr e) none = absurd (none e.0)
   unread status.ReadFault e none = absurd (none e.0)
   unread status.WriteFault e none = let (s, text, c, front) = e in unread_case s text c none
   unread status.TooLong e none = absurd (none e.1.0)
 
   -- when out of memory, or where a read failed, nothing is written
   pub unwritten : (result : Status) → EndsWith result → (result ≡ status.Memory) ⊎ (result ≡ status.ReadFault) → Keeps held held'
-  unwritten status.Memory e h = e.2
+  unwritten status.Memory (inl e) h = e.1
+  unwritten status.Memory (inr e) h = e.2
   unwritten status.ReadFault e h = e.2
   unwritten status.Done e (inl h) = cc
   unwritten status.Done e (inr h) = cc
@@ -204,7 +201,8 @@ module _ (words : List (List ℕ)) (left left' held held' : Option (List ℕ)) w
   long_else status.Done e known ok long = absurd (not_both known (short_input status.Done e.0 e.1) long)
   long_else status.Refused e known ok long = absurd (not_both known (short_input status.Refused e.0 e.1) long)
   long_else status.Usage e known ok long = absurd (not_both known ([], omega arith, none_read left left' known e.1.1) long)
-  long_else status.Memory e known ok long = absurd (not_both known e.1 long)
+  long_else status.Memory (inl e) known ok long = absurd (not_both known ([], omega arith, none_read left left' known e.0) long)
+  long_else status.Memory (inr e) known ok long = absurd (not_both known e.1 long)
   long_else status.ReadFault e known ok long = absurd (not_both known e.1 long)
   long_else status.WriteFault e known ok long = absurd (ok refl)
 
@@ -233,7 +231,8 @@ module _ (words : List (List ℕ)) (left left' held held' : Option (List ℕ)) w
 
     -- a run ends with what is due, or by a fault
     pub ends_due : (result s : Status) (text : List ℕ) → EndsWith result → IsDue words bytes s text → EndsDue held held' s text result
-    ends_due status.Memory s text e due = inr (inr (inl refl, e.2))
+    ends_due status.Memory s text (inl e) due = inr (inr (inl refl, e.1))
+    ends_due status.Memory s text (inr e) due = inr (inr (inl refl, e.2))
     ends_due status.ReadFault s text e due = inr (inr (inr refl, e.2))
     ends_due status.WriteFault s text e due =
         let (t, other, c, front) = e in

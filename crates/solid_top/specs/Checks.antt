@@ -12,10 +12,10 @@ use Rattle.solid_base.specs.declared.entities.Token.TheVariants as token
 use Rattle.solid_base.specs.declared.solids.Row.{Row}
 use Rattle.solid_base.specs.declared.solids.Row.TheVariants as row
 use Rattle.iges_file.specs.Files.{Reads}
-use Rattle.solid_top.specs.declared.checks.Tallies.{Tallies}
+use Rattle.solid_top.specs.declared.report.Tallies.{Tallies}
 use Rattle.solid_top.specs.declared.statuses.Status.{Status}
-use Rattle.solid_top.specs.declared.statuses.Status.TheVariants as status
-use Rattle.solid_top.specs.Replay.{IsRefusal}
+use Rattle.solid_top.specs.Statuses.{IsDoneOrRefused}
+use Rattle.solid_top.specs.TopFaults.{IsRefusal}
 
 abbrev pub one_null : Tallies → Tallies
 one_null t = record { null = t.null + 1; kept = t.kept; read = t.read }
@@ -123,14 +123,12 @@ abbrev pub check_text : Model → List ℕ
 check_text model =
     rows_line model.rows ++ (globals_line model ++ (root_lines model.rows ++ codes "END\n"))
 
--- Done comes only for a file, with the text of its model; Refused only for bytes that are refused
--- as a file, with their first fault; no other status comes
-abbrev pub IsChecked : List ℕ → Status → List ℕ → Type 0
-IsChecked bytes status.Done text =
+-- the bytes are a file, and this is the text of its model
+abbrev pub IsCheckOutput : List ℕ → List ℕ → Type 0
+IsCheckOutput bytes text =
     (model : Model) × (end : ℕ) × Reads bytes model end × (text ≡ check_text model)
-IsChecked bytes status.Refused text = IsRefusal bytes text
-IsChecked bytes status.Usage text = ⊥
-IsChecked bytes status.Memory text = ⊥
-IsChecked bytes status.ReadFault text = ⊥
-IsChecked bytes status.WriteFault text = ⊥
-IsChecked bytes status.TooLong text = ⊥
+
+-- Done comes only for a file, with the text of its model; Refused only for bytes that are refused
+-- as a file, with their first fault
+abbrev pub IsChecked : List ℕ → Status → List ℕ → Type 0
+IsChecked bytes s text = IsDoneOrRefused (IsCheckOutput bytes) (IsRefusal bytes) s text

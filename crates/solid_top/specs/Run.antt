@@ -9,6 +9,7 @@ use Rattle.solid_io.specs.Causes.{SameKnown}
 use Rattle.solid_top.specs.declared.statuses.Status.{Status}
 use Rattle.solid_top.specs.declared.statuses.Status.TheVariants as status
 use Rattle.solid_top.specs.declared.commands.Command.{Command}
+use Rattle.solid_top.specs.Statuses.{failures_after}
 use Rattle.solid_top.specs.Commands.{Names, IsCommand, Answers, usage_text, too_long_text}
 use Rattle.solid_top.specs.Streams.{AppendsFront, IsLongRead, IsShortRead, most_bytes}
 
@@ -61,12 +62,19 @@ abbrev pub Stops
     : List (List ℕ) → Option (List ℕ) → Option (List ℕ) → Option (List ℕ) → Option (List ℕ) → Type 0
 Stops words left left' held held' = IsCommand words × IsShortRead left left' × Keeps held held'
 
--- how a run ends: when out of memory or a read failed nothing is written; after a failed write a
--- front of the text is; else the whole text of the status
+-- a run was out of memory over its words: nothing was read, and nothing was written
+abbrev pub StopsAtWords
+    : Option (List ℕ) → Option (List ℕ) → Option (List ℕ) → Option (List ℕ) → Type 0
+StopsAtWords left left' held held' = Keeps left left' × Keeps held held'
+
+-- how a run ends: when out of memory or a read failed nothing is written, and where the words are
+-- no command nothing is read; after a failed write a front of the text is written; else the whole
+-- text of the status
 abbrev pub Ends
     : List (List ℕ) → Option (List ℕ) → Option (List ℕ) → Option (List ℕ) → Option (List ℕ) → Status
     → Type 0
-Ends words left left' held held' status.Memory = Stops words left left' held held'
+Ends words left left' held held' status.Memory =
+    StopsAtWords left left' held held' ⊎ Stops words left left' held held'
 Ends words left left' held held' status.ReadFault = Stops words left left' held held'
 Ends words left left' held held' status.WriteFault =
     (s : Status) × (text : List ℕ) × Comes words left left' s text × AppendsFront held held' text
@@ -75,33 +83,13 @@ Ends words left left' held held' status.Usage = Writes words left left' held hel
 Ends words left left' held held' status.Refused = Writes words left left' held held' status.Refused
 Ends words left left' held held' status.TooLong = Writes words left left' held held' status.TooLong
 
--- the count of failed reads after a run: one more exactly where it ends with ReadFault
-abbrev pub reads_after : ℕ → Status → ℕ
-reads_after count status.ReadFault = counted count 1
-reads_after count status.Done = count
-reads_after count status.Usage = count
-reads_after count status.Refused = count
-reads_after count status.Memory = count
-reads_after count status.WriteFault = count
-reads_after count status.TooLong = count
-
--- the count of failed writes after a run: one more exactly where it ends with WriteFault
-abbrev pub writes_after : ℕ → Status → ℕ
-writes_after count status.WriteFault = counted count 1
-writes_after count status.Done = count
-writes_after count status.Usage = count
-writes_after count status.Refused = count
-writes_after count status.Memory = count
-writes_after count status.ReadFault = count
-writes_after count status.TooLong = count
-
 -- a run with these words: how it ends; a read, or a write, failed exactly where the status says so,
 -- and none is tried after it; the bytes stay known or unknown
 pub record IsRun (words : List (List ℕ)) (left left' : Option (List ℕ)) (reads reads' : ℕ)
     (held held' : Option (List ℕ)) (writes writes' : ℕ) (result : Status) : Type 0 where
   pub ends : Ends words left left' held held' result
-  pub reading : reads' ≡ reads_after reads result
-  pub writing : writes' ≡ writes_after writes result
+  pub reading : reads' ≡ failures_after status.ReadFault reads result
+  pub writing : writes' ≡ failures_after status.WriteFault writes result
   pub source : SameKnown left left'
   pub sink : SameKnown held held'
 

@@ -1,30 +1,32 @@
 //! A whole run of solidd: the input is read, answered and written, and the status says how it
 //! ended. Contracts see the bytes that a source gave and a sink took, and say by definitions on
-//! whole texts which input is taken, what is answered to it, and why each status comes.
+//! whole texts which input is taken, what is answered to it, and why each status comes. The modules
+//! are read in this order: `statuses`, `faults`, `outputs`; `report`, `roots` and `checks` for what
+//! `check` reports; `sessions`, `replies` and `replay` for what `replay` answers; `commands`,
+//! `streams` and `program` for the run; `laws` and `program_laws`.
 #![tactic(auto)]
 
-mod answers;
 mod checks;
 mod commands;
 mod faults;
 pub mod laws;
-mod plain_numbers;
-mod points;
+mod outputs;
 mod program;
 pub mod program_laws;
-mod questions;
 mod replay;
+mod replies;
+mod report;
 mod roots;
-mod scan;
-mod scripts;
+mod sessions;
 mod statuses;
 mod streams;
 
 pub use checks::check_run;
 pub use commands::Command;
 pub use faults::TopFault;
+pub use outputs::Output;
 pub use program::run;
-pub use replay::{Output, replay_run};
+pub use replay::replay_run;
 pub use statuses::Status;
 
 #[cfg(test)]

@@ -9,7 +9,8 @@ ghost use Rattle.solid_top.specs.Streams.{IsLongRead, most_bytes};
 
 use crate::checks::check_run;
 use crate::commands::{Command, command_of};
-use crate::replay::{Output, replay_run};
+use crate::outputs::Output;
+use crate::replay::replay_run;
 use crate::statuses::Status;
 use crate::streams::{ReadError, read_input, write_text};
 use solid_base::NoTally;
@@ -74,8 +75,10 @@ fn run_words<S: Source, K: Sink>(
         (S.left source.old) (S.left source.new) (S.faults source.old) (S.faults source.new)
         (K.held sink.old) (K.held sink.new) (K.faults sink.old) (K.faults sink.new) result }
 {
-    let Some(command) = command_of(words) else {
-        return finish(sink, Status::Usage, USAGE);
+    let command = match command_of(alloc, words) {
+        Ok(Some(command)) => command,
+        Ok(None) => return finish(sink, Status::Usage, USAGE),
+        Err(_) => return Status::Memory,
     };
     match read_input(alloc, source) {
         Ok(bytes) => answer_input(alloc, command, bytes.as_slice(), sink),
@@ -91,7 +94,8 @@ fn run_words<S: Source, K: Sink>(
 ///
 /// The status is `Usage` where the words are no command, and then nothing is read; `ReadFault` or
 /// `WriteFault` exactly where a call on the source or the sink failed; `TooLong` where more than
-/// 2^25 bytes were read; `Memory` when out of memory; else that of the answer, `Done` or `Refused`.
+/// 2^25 bytes were read; `Memory` when out of memory, also over the words; else that of the answer,
+/// `Done` or `Refused`.
 pub fn run<R: Threads + Wait + Sync, S: Source, K: Sink, G: Gate>(
     _rt: &R,
     alloc: Global,
@@ -104,9 +108,9 @@ pub fn run<R: Threads + Wait + Sync, S: Source, K: Sink, G: Gate>(
         (S.left source.old) (S.left source.new) (S.faults source.old) (S.faults source.new)
         (K.held sink.old) (K.held sink.new) (K.faults sink.old) (K.faults sink.new) result }
 
-    // Usage comes exactly where the words are no command, unless a write failed; then nothing is
-    // read.
-    ensures usage { result ≢ Status.WriteFault →
+    // Usage comes exactly where the words are no command, unless a write failed or it was out of
+    // memory. Where they are none nothing is read, whatever the status.
+    ensures usage { result ≢ Status.WriteFault → result ≢ Status.Memory →
         ((result ≡ Status.Usage) ↔ (IsCommand (map (λ word. word.now) words.now) → ⊥)) }
     ensures unread { (IsCommand (map (λ word. word.now) words.now) → ⊥) →
         Keeps (S.left source.old) (S.left source.new) }

@@ -1,4 +1,5 @@
-//! Replays of worked files: points on each kind of row, and each kind of refusal.
+//! Replays of worked files: each question, points on each kind of row, each kind of refusal, and
+//! the sessions of a script.
 use crate::{Status, TopFault, replay_run};
 use solid_base::{Bytes, Tally};
 use std::alloc::{AllocError, Global};
@@ -350,13 +351,27 @@ fn other_entities_are_refused(rt: HostRuntime) -> Result<(), AllocError> {
 fn other_inputs_are_refused(rt: HostRuntime) -> Result<(), AllocError> {
     let alloc = rt.alloc();
     let point = "@1 point 1 0 0 0\n";
-    let cases: [(&[Record], &str, &str); 11] = [
-        // What stands after a file is no line that asks a question.
-        (&[(158, 0, BALL)], "@1 point 0 0 0 0\n", "NotBuilt"),
-        (&[(158, 0, BALL)], "@1 point 1 0 0 0", "NotBuilt"),
-        (&[(110, 0, LINE)], "@1 point 1 0 0 0\n@1\n", "NotBuilt"),
+    let cases: [(&[Record], &str, &str); 13] = [
+        // Exports and the lines of an edit aren't answered yet.
+        (
+            &[(158, 0, BALL)],
+            "@1 point 1 0 0 0\n@2 export\n",
+            "NotBuilt",
+        ),
+        (
+            &[(158, 0, BALL)],
+            "@1 replace 1 158 0 0 158,1.;",
+            "NotBuilt",
+        ),
+        (&[(158, 0, BALL)], "@1 add 3 158 0 0 158,1.;\n", "NotBuilt"),
+        (
+            &[(110, 0, LINE)],
+            "hello\n@8 drop 1\n@1 newest\n",
+            "NotBuilt",
+        ),
+        (&[(110, 0, LINE)], "@1 commit\n", "NotBuilt"),
         // A file's own fault comes first.
-        (&[(158, 3, "158,0.;")], "@1\n", "BadRow 1 BadSize 1"),
+        (&[(158, 3, "158,0.;")], "@1 export\n", "BadRow 1 BadSize 1"),
         (&[(150, 0, BALL)], point, "BadRow 1 WrongKind 0"),
         (
             &[(158, 9, BALL), (158, 0, "158,0.;")],
@@ -366,7 +381,7 @@ fn other_inputs_are_refused(rt: HostRuntime) -> Result<(), AllocError> {
         // The references between the entities.
         (
             &[(158, 0, BALL), (158, 0, BALL), (180, 0, "180,3,-1,-7,1;")],
-            "@1\n",
+            "@1 commit\n",
             "Dangling 5 7",
         ),
         (
@@ -386,12 +401,172 @@ fn other_inputs_are_refused(rt: HostRuntime) -> Result<(), AllocError> {
         let mut input = file_of(&rt, alloc, records)?;
         input.extend_from_slice(lines.as_bytes())?;
         let text = format!(in alloc; "MODEL REFUSED {fault}\n")?;
-        expect_replay(&rt, alloc, input.as_slice(), Status::Refused, &text, 0)?;
+        expect_replay(&rt, alloc, input.as_slice(), Status::Refused, &text, 1)?;
     }
     let text = "MODEL REFUSED NoTerminate\n";
     expect_replay(&rt, alloc, b"", Status::Refused, text, 0)?;
     let words = TopFault::NotBuilt.write_fault(alloc)?;
     assert_eq!(rt; words.as_slice(), b"NotBuilt".as_slice());
     assert_eq!(rt; TopFault::NotBuilt.number(), 30);
+    Ok(())
+}
+
+/// The answer to one question of session 1.
+fn expect_body(
+    rt: &impl Abort,
+    alloc: Global,
+    file: &Bytes,
+    question: &str,
+    body: &str,
+    most: u64,
+) -> Result<(), AllocError> {
+    let mut input = Bytes::new(alloc);
+    input.extend_from_slice(file.as_slice())?;
+    for part in ["@1 ", question, "\n"] {
+        input.extend_from_slice(part.as_bytes())?;
+    }
+    let text = format!(in alloc; "LOG 0\n@1 1\n0 {body}\nEND\n")?;
+    expect_replay(rt, alloc, input.as_slice(), Status::Done, &text, most)
+}
+
+#[test]
+fn each_question_is_answered(rt: HostRuntime) -> Result<(), AllocError> {
+    let alloc = rt.alloc();
+    let ball = file_of(&rt, alloc, &[(158, 0, BALL)])?;
+    let block = file_of(&rt, alloc, &[(150, 0, "150,1.,1.,1.;")])?;
+    let parts = file_of(
+        &rt,
+        alloc,
+        &[
+            (158, 0, BALL),
+            (124, 0, ALONG_X),
+            (184, 0, "184,2,1,1,3,0;"),
+            (110, 0, LINE),
+        ],
+    )?;
+    let cases = [
+        (&ball, "cell 1 -0.5 -0.5 -0.5 0.5 0.5 0.5", "INSIDE", 1),
+        (&ball, "live cell 1 0 0 0 1 1 1", "UNDECIDED 1", 1),
+        (&ball, "cell 1 2 2 2 2 2 2", "OUTSIDE", 1),
+        (
+            &ball,
+            "section 1 0 -2 -2 1 4 4",
+            "SECTION 4 4\n.??.\n????\n????\n.??.",
+            16,
+        ),
+        (
+            &block,
+            "section 1 0.5 0.25 0 0.5 3 2",
+            "SECTION 3 2\n??.\n??.",
+            6,
+        ),
+        (&block, "volume 1 0 0 0 2 2 2 1", "VOLUME 0 8 8 0.0 8.0", 8),
+        (
+            &block,
+            "volume 1 0 0 0 2 2 2 2",
+            "VOLUME 0 27 64 0.0 3.375",
+            64,
+        ),
+        (
+            &block,
+            "live volume 1 0 0 0 2 2 2 3",
+            "VOLUME 8 125 512 0.125 1.953125",
+            512,
+        ),
+        (
+            &block,
+            "bounds 1 0 0 0 2 2 2 3",
+            "BOUNDS 0.0 0.0 0.0 1.25 1.25 1.25",
+            512,
+        ),
+        (&block, "bounds 1 2 2 2 3 3 3 1", "EMPTY", 8),
+        (&block, "volume 1 0 0 0 2 2 2 6", "REFUSED TooLarge", 0),
+        (
+            &block,
+            "section 1 0 0 0 0.001 257 256",
+            "REFUSED TooLarge",
+            0,
+        ),
+        (&parts, "items 5", "ITEMS 2 1/3 1", 0),
+        (&parts, "items 1", "ITEMS 1 1", 0),
+        (&parts, "items 3", "REFUSED NotSolid 3", 0),
+        (&parts, "items 7", "REFUSED Unsupported 7", 0),
+        (&parts, "items 9", "REFUSED NoEntity 9", 0),
+        (&parts, "newest", "NEWEST", 0),
+    ];
+    for (file, question, body, most) in cases {
+        expect_body(&rt, alloc, file, question, body, most)?;
+    }
+    Ok(())
+}
+
+/// A plate with two bores, of which one is an instance of the other, a colour, a matrix and a name.
+const PLATE: [Record; 7] = [
+    (314, 0, "314,50.0,60.0,70.0,5HSteel;"),
+    (150, 0, "150,100.,60.,10.,0.,0.,0.,1.,0.,0.,0.,0.,1.;"),
+    (154, 0, "154,12.,5.,20.,30.,-1.,0.,0.,1.;"),
+    (124, 0, "124,1.,0.,0.,60.,0.,1.,0.,0.,0.,0.,1.,0.;"),
+    (430, 7, "430,5;"),
+    (180, 0, "180,5,-3,-5,3,-9,3,0,1,13;"),
+    (406, 0, "406,1,7HBRACKET;"),
+];
+
+#[test]
+fn a_bored_plate_is_answered(rt: HostRuntime) -> Result<(), AllocError> {
+    let alloc = rt.alloc();
+    let plate = file_of(&rt, alloc, &PLATE)?;
+    let cases = [
+        ("point 11 50 30 5", "INSIDE", 3),
+        ("point 11 20 30 5", "OUTSIDE", 3),
+        ("point 11 80 30 5", "OUTSIDE", 3),
+        ("point 11 25 30 5", "UNDECIDED 5", 3),
+        (
+            "volume 11 0 0 0 128 64 16 2",
+            "VOLUME 2 48 64 4096.0 98304.0",
+            192,
+        ),
+        ("point 13 0 0 0", "REFUSED Unsupported 13", 0),
+        ("point 7 0 0 0", "REFUSED NotSolid 7", 0),
+        ("point 15 0 0 0", "REFUSED NoEntity 15", 0),
+        ("volume 11 0 0 0 1 1 1 6", "REFUSED TooLarge", 0),
+        ("section 11 0 0 0 0.001 257 256", "REFUSED TooLarge", 0),
+        ("items 11", "ITEMS 1 11", 0),
+    ];
+    for (question, body, most) in cases {
+        expect_body(&rt, alloc, &plate, question, body, most)?;
+    }
+    Ok(())
+}
+
+#[test]
+fn sessions_have_their_replies(rt: HostRuntime) -> Result<(), AllocError> {
+    let alloc = rt.alloc();
+    let cases = [
+        // Lines that are no command, and lines that name no session.
+        (
+            "hello\n@9 newest\n@1 pint\n@1 point 1 0 0\n@1 point 1 0 0 0 7\n",
+            "LOG 0\n@0 2\n- REFUSED BadLine 1\n- REFUSED TooManySessions\n@1 3\n\
+             - REFUSED UnknownCommand\n- REFUSED BadLine 15\n- REFUSED BadLine 18\nEND\n",
+        ),
+        // Sessions come in order, and the lines of each in theirs.
+        (
+            "@8 newest\n@2 point 1 0 0 0\n@8 point 1 0 2 0\n@2 newest\n",
+            "LOG 0\n@2 2\n0 INSIDE\n0 NEWEST\n@8 2\n0 NEWEST\n0 OUTSIDE\nEND\n",
+        ),
+        // Blanks of each kind, skipped lines, both line ends, and a last line without one.
+        (
+            "\n \t\x1a\n@1\tpoint 1  0 0 0 \r\n@1 newest",
+            "LOG 0\n@1 2\n0 INSIDE\n0 NEWEST\nEND\n",
+        ),
+        (
+            "@1 live newest\n@1 point 1 5e-1 0 .5\n",
+            "LOG 0\n@1 2\n- REFUSED UnknownCommand\n0 INSIDE\nEND\n",
+        ),
+    ];
+    for (lines, text) in cases {
+        let mut input = file_of(&rt, alloc, &[(158, 0, BALL)])?;
+        input.extend_from_slice(lines.as_bytes())?;
+        expect_replay(&rt, alloc, input.as_slice(), Status::Done, text, 2)?;
+    }
     Ok(())
 }

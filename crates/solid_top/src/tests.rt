@@ -279,13 +279,32 @@ fn inputs_have_their_status(rt: HostRuntime) -> Result<(), AllocError> {
 fn other_words_are_no_command(rt: HostRuntime) -> Result<(), AllocError> {
     let alloc = rt.alloc();
     let usage = "USAGE: solidd check, replay, serve or load N\n";
-    for word in ["", "Check", "checks", "replay ", "serve"] {
+    for word in [
+        "", "Check", "checks", "replay ", "serve", "help", "-", "--", "-h", "--help",
+    ] {
         let ended = run_over(&rt, alloc, &[word], b"", 0, NEVER, 100)?;
         expect_run(&rt, &ended, Status::Usage, usage);
     }
     let ended = run_over(&rt, alloc, &[], b"", 0, NEVER, 100)?;
     expect_run(&rt, &ended, Status::Usage, usage);
-    let ended = run_over(&rt, alloc, &["check", "replay"], b"", 0, NEVER, 100)?;
+    for words in [
+        ["check", "replay"],
+        ["check", "7"],
+        ["check", "--"],
+        ["--", "check"],
+    ] {
+        let ended = run_over(&rt, alloc, &words, b"", 0, NEVER, 100)?;
+        expect_run(&rt, &ended, Status::Usage, usage);
+    }
+    let ended = run_over(
+        &rt,
+        alloc,
+        &["check", "replay", "check"],
+        b"",
+        0,
+        NEVER,
+        100,
+    )?;
     expect_run(&rt, &ended, Status::Usage, usage);
     Ok(())
 }

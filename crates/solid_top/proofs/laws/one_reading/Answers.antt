@@ -2,4 +2,4 @@ use Rattle.solid_top.proofs.ReplayLaws.{replay_once}
 use Rattle.solid_top.proofs.laws.one_reading.Goals as goal
 
 pub returns : goal.returns
-returns c bytes model other questions asked h k = replay_once bytes model other questions asked h k
+returns c = replay_once

@@ -2,9 +2,9 @@ use Rattle.solid_top.proofs.RunLaws.{usage_only, usage_else, unread, unwritten, 
 use Rattle.solid_top.proofs.program.run.Goals as goal
 
 pub returns-clause-usage : goal.returns-clause-usage
-returns-clause-usage g c ok =
+returns-clause-usage g c ok more =
     let ends = c.run_words.ensures.ends in
-    (usage_only _ _ _ _ _ c.run_words.result ends, usage_else _ _ _ _ _ c.run_words.result ends ok)
+    (usage_only _ _ _ _ _ c.run_words.result ends, usage_else _ _ _ _ _ c.run_words.result ends ok more)
 
 pub returns-clause-unread : goal.returns-clause-unread
 returns-clause-unread g c = unread _ _ _ _ _ c.run_words.result c.run_words.ensures.ends
