@@ -41,10 +41,10 @@ def axes(rng):
     return u, w
 
 
-def primitive(rng, kind):
-    """The parameters of a primitive and a place near it."""
+def primitive(rng, kind, most=999):
+    """The parameters of a primitive and a place near it, within so many units along each axis."""
     u, w = axes(rng)
-    at = point(rng)
+    at = point(rng, most)
     sizes = sorted(lengths(rng, 3), reverse=True)
     if kind == "block":
         return sizes + at + u + w, at, sizes[0]

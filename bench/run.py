@@ -25,6 +25,11 @@ INPUTS = [
     ("10,000 solids, matrices and others, 50,000 points", "replay", "make_solids.py", ["--entities", "10000", "--points", "50000"]),
     ("90,000 spheres, 250,000 points", "replay", "make_spheres.py", ["--spheres", "90000", "--points", "250000"]),
     ("10,000 mixed primitives, 200,000 points", "replay", "make_mixed.py", ["--points", "200000"]),
+    ("a section of 65,536 cells, a tree of 50", "replay", "make_questions.py", []),
+    ("32 sections, a tree of 50", "replay", "make_questions.py", ["--questions", "sections"]),
+    ("a volume of depth 5, a tree of 50", "replay", "make_questions.py", ["--questions", "volume"]),
+    ("extents of depth 5, a tree of 50", "replay", "make_questions.py", ["--questions", "bounds"]),
+    ("300,000 script lines", "replay", "make_questions.py", ["--questions", "lines"]),
 ] + [
     ("10,000 of %s, 200,000 points" % kind, "replay", "make_mixed.py", ["--points", "200000", "--kinds", kind])
     for kind in KINDS
