@@ -195,5 +195,5 @@ pub taken_off : (base stack new : List Verdict) (v w : Verdict) → base ++ v �
 taken_off base stack new v w h last = let k = last_one new base w v (sym last ∙ sym h) in (k.1, k.0)
 
 -- two stacks with one list and as much room
-pub same_stack : (new base : Stack) → new.list ≡ base.list → new.spare ≡ base.spare → new ≡ base
+pub same_stack : (new base : Stack Verdict) → new.list ≡ base.list → new.spare ≡ base.spare → new ≡ base
 same_stack new base list spare = ap (λ l. record { list = l; spare = new.spare }) list ∙ ap (λ n. record { list = base.list; spare = n }) spare

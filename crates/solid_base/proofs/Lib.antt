@@ -1,5 +1,6 @@
 pub mod Ring
 pub mod Prefix
+pub mod Slices
 pub mod Pairs
 pub mod Digits
 pub mod Numerals

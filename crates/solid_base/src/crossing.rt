@@ -5,7 +5,7 @@ use crate::entities::Model;
 use crate::lists::List;
 use crate::replies::Transcripts;
 use crate::rows::Rows;
-use crate::verdicts::Verdicts;
+use crate::stack::Stack;
 
 /// Takes what may be sent to another thread, and gives it back.
 fn sent<T: Send>(value: T) -> T
@@ -35,11 +35,11 @@ pub fn model_crosses(model: Model) -> Model
     sent(model)
 }
 
-/// Verdicts may be sent to another thread.
-pub fn verdicts_cross(verdicts: Verdicts) -> Verdicts
-    ensures { result ≡ verdicts }
+/// A list with room may be sent to another thread where its items may.
+pub fn stack_crosses<T: Send>(stack: Stack<T>) -> Stack<T>
+    ensures { result ≡ stack }
 {
-    sent(verdicts)
+    sent(stack)
 }
 
 /// Transcripts may be sent to another thread.

@@ -16,12 +16,12 @@ mod replies;
 mod rows;
 mod scan;
 mod solids;
-mod verdicts;
+mod stack;
 mod words;
 
 pub use borrowed_lines::BorrowedLines;
 pub use classes::{Class, Verdict};
-pub use crossing::{list_crosses, model_crosses, rows_cross, transcripts_cross, verdicts_cross};
+pub use crossing::{list_crosses, model_crosses, rows_cross, stack_crosses, transcripts_cross};
 pub use entities::{Entity, Model, RowText, Token, Tokens, blank_attributes};
 pub use geometry::{Affine, Cube, Vec3};
 pub use ledger::{Ledger, NoTally, Tally};
@@ -34,7 +34,7 @@ pub use scan::{
     without_blanks_after,
 };
 pub use solids::{Item, Items, Placed, PlacedList, Primitive as Prim, Row};
-pub use verdicts::Verdicts;
+pub use stack::{Stack, Verdicts};
 pub use words::{push_decimal, word, word_and_number};
 
 /// The steps in one unit: every length and coordinate is a whole number of steps of 10^-12 units.

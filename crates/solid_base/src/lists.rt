@@ -1,4 +1,4 @@
-ghost use Rattle.std.specs.Prelude.{◌≡◌, ◌↔◌, [], ◌∷◌, ◌++◌, length, IsTrue, OnOk, OnErr};
+ghost use Rattle.std.specs.Prelude.{◌≡◌, ◌↔◌, [], ◌∷◌, ◌++◌, length, take, IsTrue, OnOk, OnErr};
 
 use std::alloc::{AllocError, Global};
 use std::marker::Model;
@@ -95,6 +95,20 @@ impl<T: Drop> List<T> {
         self.items.push(item)?;
         Ok(())
     }
+
+    /// Sets room aside for so many items more. The list is unchanged, also when out of memory.
+    pub fn reserve(&mut self, more: usize) -> Result<(), AllocError>
+        ensures { self.new ≡ self.old }
+    {
+        self.items.reserve(more)
+    }
+
+    /// Keeps so many items of the front, or all where there are no more.
+    pub fn truncate(&mut self, size: usize)
+        ensures { self.new ≡ take size self.old }
+    {
+        self.items.truncate(size);
+    }
 }
 
 impl<T: Copy> List<T> {
@@ -119,9 +133,14 @@ mod tests {
         numbers.extend_from_slice(&[1, 2])?;
         numbers.extend_from_slice(&[])?;
         numbers.push(9)?;
+        numbers.reserve(3)?;
         assert!(rt; !numbers.is_empty());
         assert_eq!(rt; numbers.len(), 4);
         assert_eq!(rt; numbers.as_slice(), [7, 1, 2, 9].as_slice());
+        numbers.truncate(5);
+        assert_eq!(rt; numbers.len(), 4);
+        numbers.truncate(2);
+        assert_eq!(rt; numbers.as_slice(), [7, 1].as_slice());
         Ok(())
     }
 }

@@ -42,9 +42,9 @@ loop-item-preserved c =
     let inside = c.loop-item-test.true in
     elim c.match-item.branch [
       | in-Operand w ↦
-          let put = ap (λ (s : Stack). s.list) w.stack-is ∙ (rw w.unwrap.ensures at w.push.ensures.ok) in
+          let put = ap (λ (s : Stack Verdict). s.list) w.stack-is ∙ (rw w.unwrap.ensures at w.push.ensures.ok) in
           let leaf : c.loop-item.next < length c.args.leaves.now = leaf_there _ _ _ inside _ _ _ _ (here.rest _ all) _ w.in-Operand.is in
-          let less = ap (λ (s : Stack). s.spare + 1) w.stack-is ∙ (rw w.unwrap.ensures at w.push.ensures.spare) (omega (arith, c.requires.room, here.spare, here.few, leaf)) in
+          let less = ap (λ (s : Stack Verdict). s.spare + 1) w.stack-is ∙ (rw w.unwrap.ensures at w.push.ensures.spare) (omega (arith, c.requires.room, here.spare, here.few, leaf)) in
           let long = pushed_length _ _ _ put in
           record {
             rest = λ after h. rw w.next-is (operand_next _ _ _ inside after c.args.leaves.now _ c.loop-item.next (here.rest after h) _ w.in-Operand.is outside _ put);
@@ -54,8 +54,8 @@ loop-item-preserved c =
       | in-Join w ↦
           let o = operation_of _ w.in-Join.is in
           let taken : (below : List Verdict) (a b : Verdict) → c.loop-item.stack.list ≡ below ++ a ∷ b ∷ [] → c.match-item.stack.list ≡ below ++ verdict_of o.0 a b ∷ [] =
-          λ below a b is. ap (λ (s : Stack). s.list) w.stack-is ∙ w.apply.ensures.verdict o.0 below a b o.1 is in
-          let more = ap (λ (s : Stack). s.spare) w.stack-is ∙ w.apply.ensures.spare in
+          λ below a b is. ap (λ (s : Stack Verdict). s.list) w.stack-is ∙ w.apply.ensures.verdict o.0 below a b o.1 is in
+          let more = ap (λ (s : Stack Verdict). s.spare) w.stack-is ∙ w.apply.ensures.spare in
           let long = joined_length _ _ _ inside _ _ _ (here.rest _ all) o.0 _ o.1 taken in
           record {
             rest = λ after h. rw w.next-is (operation_next _ _ _ inside after _ _ (here.rest after h) o.0 _ o.1 taken);
