@@ -1,5 +1,5 @@
 -- How many digits are left without the zeros after them, digit by digit.
-use Rattle.std.proofs.Common.{◌≡◌, ◌≢◌, ℕ, zero, suc, ◌+◌, ◌-◌, ◌/◌, ◌%◌, ◌^◌, ◌<◌, ◌≤◌, ◌==◌, Bool, false, cond, List, [], ◌∷◌, ◌++◌, length, max, refl, sym, ap, subst, ◌∙◌, arith, decimal, length-append, length-take-le}
+use Rattle.std.proofs.Common.{◌≡◌, ◌≢◌, ℕ, zero, suc, ◌+◌, ◌-◌, ◌/◌, ◌%◌, ◌^◌, ◌<◌, ◌≤◌, ◌==◌, Bool, false, cond, List, [], ◌∷◌, ◌++◌, length, max, refl, sym, ap, subst, ◌∙◌, arith, decimal, take, replicate, length-append, length-take-le}
 use Rattle.std.specs.List.{suffix_len, prefix_len}
 use Rattle.std.proofs.Math.Nat.{pow-suc}
 use Rattle.std.proofs.lemmas.List.{reverse-append}
@@ -87,6 +87,37 @@ all_kept (suc count) n some other less = none_less count n other
 pub zero_kept : (count : ℕ) → 0 < count → length (without_zeros (last_digits count 0)) ≡ 1
 zero_kept zero some = absurd (omega arith)
 zero_kept (suc count) some = zeros_alone count
+
+-- so many zeros
+abbrev zeros : ℕ → List ℕ
+zeros count = replicate count 48
+
+abbrev one_zero : List ℕ
+one_zero = 48 ∷ []
+
+zero_after : (count : ℕ) → zeros count ++ one_zero ≡ 48 ∷ zeros count
+zero_after zero = refl
+zero_after (suc count) = ap (λ (ds : List ℕ). 48 ∷ ds) (zero_after count)
+
+digits_of_none : (count : ℕ) → last_digits count 0 ≡ zeros count
+unfolding last_digits
+digits_of_none zero = refl
+digits_of_none (suc count) = ap (λ (ds : List ℕ). ds ++ one_zero) (digits_of_none count) ∙ zero_after count
+
+first_zero : (k count : ℕ) → length (take k (zeros count)) ≡ 1 → take k (zeros count) ≡ one_zero
+first_zero zero count one = absurd (omega arith)
+first_zero (suc k) zero one = absurd (omega arith)
+first_zero (suc zero) (suc count) one = refl
+first_zero (suc (suc k)) (suc zero) one = refl
+first_zero (suc (suc k)) (suc (suc count)) one = absurd (omega arith)
+
+-- of no part one zero is written
+pub zero_written : (count : ℕ) → 0 < count → without_zeros (last_digits count 0) ≡ 48 ∷ []
+zero_written count some =
+    let k = max 1 (length (zeros count) - suffix_len (λ b. b == 48) (zeros count)) in
+    let same : without_zeros (last_digits count 0) ≡ take k (zeros count) = ap (λ (ds : List ℕ). without_zeros ds) (digits_of_none count) in
+    let one : length (take k (zeros count)) ≡ 1 = ap (λ (ds : List ℕ). length ds) (sym same) ∙ zero_kept count some in
+    same ∙ first_zero k count one
 
 -- ---- the digits of a whole number
 

@@ -11,7 +11,7 @@ mod writing;
 
 pub use faults::RealFault;
 pub use reading::read_real;
-pub use writing::{real_length, write_real};
+pub use writing::{push_real, real_length, write_real};
 
 #[cfg(test)]
 mod tests;

@@ -21,6 +21,19 @@ pub fn write_real(alloc: Global, value: i128, places: u32) -> Result<Bytes, Allo
     write(alloc, value, places)
 }
 
+/// Adds the text of `value / 10^places` that `write_real` writes. AllocError when out of memory; a
+/// part of the text may then have been added.
+pub fn push_real(text: &mut Bytes, value: i128, places: u32) -> Result<(), AllocError>
+    requires { (1 ≤ places) × (places ≤ 15) }
+    ensures { OnOk result (text.new ≡ text.old ++ real_text value places) }
+{
+    let unit = power_of_ten(u64::from(places));
+    let (whole, part) = split(value.unsigned_abs(), unit);
+    push_whole(text, value < 0, whole)?;
+    text.push(b'.')?;
+    push_decimals(text, unit, part, places)
+}
+
 /// How many bytes the text of `value / 10^places` has that `write_real` writes. It takes no memory.
 pub fn real_length(value: i128, places: u32) -> usize
     requires { (1 ≤ places) × (places ≤ 15) }
@@ -49,25 +62,24 @@ fn write(alloc: Global, value: i128, places: u32) -> Result<Bytes, AllocError>
     requires { (1 ≤ places) × (places ≤ 15) }
     ensures { IfOk result (λ text. text ≡ real_text value places) }
 {
-    let size = value.unsigned_abs();
-    let unit = power_of_ten(u64::from(places));
-    let mut text = write_whole(alloc, value < 0, size / u128::from(unit))?;
-    text.push(b'.')?;
-    push_decimals(&mut text, unit, (size % u128::from(unit)) as u64, places)?;
-    Ok(Bytes::from_vec(text))
+    let mut text = Bytes::from_vec(Vec::with_capacity(alloc, 24)?);
+    push_real(&mut text, value, places)?;
+    Ok(text)
 }
 
-/// A minus sign or none, and a whole number.
-fn write_whole(alloc: Global, is_negative: bool, whole: u128) -> Result<Vec<u8>, AllocError>
-    ensures { IfOk result (λ text. text.items ≡ cond is_negative (45 ∷ []) [] ++ decimal whole) }
+/// Adds a minus sign or none, and a whole number.
+fn push_whole(text: &mut Bytes, is_negative: bool, whole: u128) -> Result<(), AllocError>
+    ensures { OnOk result (text.new
+        ≡ text.old ++ (cond is_negative (45 ∷ []) [] ++ decimal whole)) }
 {
     let mut buffer = Buffer::new();
-    let mut text = Vec::with_capacity(alloc, 24)?;
     if is_negative {
         text.push(b'-')?;
     }
-    text.extend_from_slice(buffer.format(whole).as_bytes())?;
-    Ok(text)
+    match u64::try_from(whole) {
+        Ok(short) => text.extend_from_slice(buffer.format(short).as_bytes()),
+        Err(_) => text.extend_from_slice(buffer.format(whole).as_bytes()),
+    }
 }
 
 /// How many bytes a minus sign or none and a whole number have.
@@ -107,13 +119,15 @@ fn digits_in_short(number: u64) -> usize
 }
 
 /// Adds the decimals of a part of a unit, which is a power of ten.
-fn push_decimals(text: &mut Vec<u8>, unit: u64, part: u64, places: u32) -> Result<(), AllocError>
+fn push_decimals(text: &mut Bytes, unit: u64, part: u64, places: u32) -> Result<(), AllocError>
     requires unit { unit ≡ 10 ^ places }
     requires places { (1 ≤ places) × (places ≤ 15) }
     requires part { part < unit }
-    ensures { OnOk result (text.new.items
-        ≡ text.old.items ++ without_zeros (last_digits places part)) }
+    ensures { OnOk result (text.new ≡ text.old ++ without_zeros (last_digits places part)) }
 {
+    if part == 0 {
+        return text.push(b'0');
+    }
     // The digit 1 of the unit stands before the decimals, with the zeros in front of them.
     let mut buffer = Buffer::new();
     let decimals = &buffer.format(unit + part).as_bytes()[1..];

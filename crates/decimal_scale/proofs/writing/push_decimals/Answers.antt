@@ -2,6 +2,7 @@ use Rattle.std.proofs.Common.{◌≡◌, ◌-◌, ◌^◌, ◌≤◌, ◌<◌, L
 use Rattle.decimal_scale.specs.Writing.{last_digits, without_zeros}
 use Rattle.decimal_scale.proofs.Powers.{power_at_least}
 use Rattle.decimal_scale.proofs.Texts.{after_unit, length-last_digits}
+use Rattle.decimal_scale.proofs.Zeros.{zero_written}
 use Rattle.decimal_scale.proofs.writing.push_decimals.Goals as goal
 
 pub overflow_add-unit : goal.overflow_add-unit
@@ -28,5 +29,11 @@ significant-requires c =
 pub returns : goal.returns
 returns c =
     let text = after_unit c.as_bytes.result.now c.args.unit c.args.part c.args.places c.requires.unit c.requires.places.1 c.requires.part (c.as_bytes.ensures.value ∙ c.format.ensures.text) in
-    let added : OnOk c.extend_from_slice.result (c.extend_from_slice.new.self.items ≡ c.args.text.now.items ++ without_zeros (take (length c.as_bytes.result.now - 1) (drop 1 c.as_bytes.result.now))) = search rules in
-    subst (λ (ds : List ℕ). OnOk c.extend_from_slice.result (c.extend_from_slice.new.self.items ≡ c.args.text.now.items ++ without_zeros ds)) text.1 added
+    let added : OnOk c.extend_from_slice.result (c.extend_from_slice.new.self ≡ c.args.text.now ++ without_zeros (take (length c.as_bytes.result.now - 1) (drop 1 c.as_bytes.result.now))) = search rules in
+    subst (λ (ds : List ℕ). OnOk c.extend_from_slice.result (c.extend_from_slice.new.self ≡ c.args.text.now ++ without_zeros ds)) text.1 added
+
+pub returns-then-part-eq0 : goal.returns-then-part-eq0
+returns-then-part-eq0 c =
+    let none : c.args.part ≡ 0 = omega (arith, c.if-part-eq0.true) in
+    let zero = zero_written c.args.places (omega (arith, c.requires.places.0)) in
+    rw none (rw zero c.push.ensures.ok)
