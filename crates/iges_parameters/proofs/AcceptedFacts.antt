@@ -1,7 +1,6 @@
 -- Worked models: one that is accepted, and for each rule one that isn't.
-use Rattle.std.proofs.Common.{◌≡◌, ◌≤◌, ◌≢◌, ◌⊎◌, inl, inr, ℕ, zero, suc, ◌+◌, ◌*◌, ◌^◌, List, [], ◌∷◌, ◌++◌, length, replicate, codes, decimal, pos, Bool, true, false, not, ◌&&◌, ◌==◌, ◌/◌, ◌%◌, ◌<◌, cond, None, slice_get, map, get_or, length-append, refl, sym, ap, subst, ◌∙◌, arith}
-use Rattle.std.specs.List.{AllByRecursion, Contains, list_all}
-use Rattle.std.proofs.lemmas.List.{length-replicate}
+use Rattle.std.proofs.Common.{◌≡◌, ◌≤◌, ◌⊎◌, inl, inr, ℕ, zero, suc, ◌+◌, ◌*◌, ◌^◌, List, [], ◌∷◌, ◌++◌, length, replicate, codes, decimal, pos, Bool, true, false, not, ◌==◌, ◌/◌, ◌%◌, ◌<◌, cond, None, slice_get, get_or, length-append, refl, ap, subst, ◌∙◌, arith}
+use Rattle.std.specs.List.{Contains, list_all}
 use Rattle.std.proofs.lemmas.Bool.Decides.{nat_tests}
 use Rattle.std.proofs.lemmas.Fmt.{decimal_digit, decimal_step}
 use Rattle.std.proofs.lemmas.Int.{ints}

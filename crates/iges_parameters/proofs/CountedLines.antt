@@ -1,10 +1,9 @@
 -- The lines of rows, counted one row after the other.
-use Rattle.std.proofs.Common.{◌≡◌, ◌≤◌, ℕ, zero, suc, ◌+◌, List, [], ◌∷◌, length, min, drop, Some, slice_get, refl, ap, arith}
+use Rattle.std.proofs.Common.{◌≡◌, ◌≤◌, ℕ, zero, suc, ◌+◌, List, [], ◌∷◌, length, drop, Some, slice_get, refl, ap}
 use Rattle.std.specs.List.{AllByRecursion}
 use Rattle.std.proofs.Math.ListN.{drop_of_length-le}
 use Rattle.solid_base.specs.declared.entities.Entity.{Entity}
 use Rattle.iges_parameters.specs.Writing.{record_text, lines_for}
-use Rattle.iges_parameters.specs.WrittenRows.{most_counted_lines}
 use Rattle.iges_parameters.specs.Accepted.{lines_of}
 
 -- the lines of the entity at a place, and of those after it

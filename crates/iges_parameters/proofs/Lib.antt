@@ -34,6 +34,7 @@ pub mod PrimsBack
 pub mod ListsBack
 pub mod RecordsBack
 pub mod WrittenTokens
+pub mod LaidTexts
 pub mod CountedLines
 pub mod AcceptedRows
 mod AcceptedFacts

@@ -7,5 +7,6 @@ pub mod Lists
 pub mod Records
 pub mod Writing
 pub mod WrittenRows
+pub mod LaidTexts
 pub mod Accepted
 pub mod RecordFaults

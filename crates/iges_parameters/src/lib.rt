@@ -16,5 +16,6 @@ pub use faults::RowFault;
 pub use reading::records::{RecordText, read_known_row, read_row};
 pub use tables::is_read;
 pub use writing::RECORD_COLUMNS;
+pub use writing::laid_text::row_text;
 pub use writing::line_counts::{MOST_COUNTED_LINES, line_count, row_line_count};
 pub use writing::written_rows::row_lines;

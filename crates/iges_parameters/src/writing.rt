@@ -1,8 +1,9 @@
 //! A row's record as it is written: its tokens, laid out in lines or only measured.
-//! In reading order: `tokens` says what tokens go into, and `measured` only counts their bytes;
-//! `number_tokens` and `row_tokens` give the tokens of a row, `written_rows` its lines, and
-//! `line_counts` how many they are.
+//! In reading order: `tokens` says what tokens go into, `number_tokens` and `row_tokens` give the
+//! tokens of a row, `laid_text` lays them out in its text, of which `written_rows` makes lines;
+//! `measured` only counts their bytes, and `line_counts` how many lines they take.
 
+pub mod laid_text;
 pub mod line_counts;
 pub mod measured;
 pub mod number_tokens;

@@ -1,19 +1,18 @@
-ghost use Rattle.std.specs.Prelude.{◌≡◌, ℕ, List, IfOk, Ok};
+ghost use Rattle.std.specs.Prelude.{◌≡◌, ◌<◌, ◌^◌, length, IfOk, Ok};
 ghost use Rattle.std.specs.List.{concat};
 ghost use Rattle.solid_base.specs.Ranges.{IsLawfulRow};
 ghost use Rattle.iges_fields.specs.Delimiters.{AreDelimiters};
-ghost use Rattle.iges_fields.specs.Layout.{AreSpelt, AreLines, laid};
+ghost use Rattle.iges_fields.specs.Layout.{AreSpelt, AreLines};
 ghost use Rattle.iges_parameters.specs.RecordFields.{fields_of};
 ghost use Rattle.iges_parameters.specs.Records.{record_of};
-ghost use Rattle.iges_parameters.specs.Writing.{tokens_of, kept_text, record_text, IsOfRecord};
+ghost use Rattle.iges_parameters.specs.Writing.{record_text, IsOfRecord};
 ghost use Rattle.iges_parameters.specs.Writing.{type_of_row, form_of_row, matrix_of_row};
-ghost use Rattle.iges_parameters.specs.WrittenRows.{IsLaid, IsTailOf};
+ghost use Rattle.iges_parameters.specs.WrittenRows.{IsTailOf};
 
 use crate::writing::RECORD_COLUMNS;
-use crate::writing::row_tokens::push_record;
-use crate::writing::tokens::KeptTokens;
-use iges_fields::{lay, lines_of};
-use solid_base::{Entity, Lines, Row, Tokens};
+use crate::writing::laid_text::row_text;
+use iges_fields::lines_of;
+use solid_base::{Bytes, Entity, Lines};
 use std::alloc::{AllocError, Global};
 
 /// The lines of 64 columns in which an entity's record is written: the type's number, the
@@ -35,47 +34,14 @@ pub fn row_lines(alloc: Global, entity: &Entity, comma: u8, semi: u8) -> Result<
         (matrix_of_row entity.now.row) (fields_of comma semi (concat lines))
         ≡ Ok (entity.now.row, entity.now.tail)) }
 {
-    match &entity.row {
-        Row::Opaque { text, .. } => kept_lines(alloc, text.as_slice()),
-        _ => laid_lines(alloc, entity, comma, semi),
-    }
+    let text = row_text(Bytes::new(alloc), entity, comma, semi)?;
+    cut(alloc, text.as_slice())
 }
 
-fn laid_lines(alloc: Global, entity: &Entity, comma: u8, semi: u8) -> Result<Lines, AllocError>
-    requires laid { IsLaid entity.now.row }
-    requires lawful { IsLawfulRow entity.now.row }
-    requires spelt { AreSpelt entity.now.tail }
-    requires delimiters { AreDelimiters comma semi }
-    ensures lines { IfOk result
-        (AreLines 64 (laid 64 comma semi 0 (tokens_of entity.now.row entity.now.tail))) }
-    ensures reads_back { IfOk result (λ lines. IsOfRecord entity.now.row →
-        record_of (type_of_row entity.now.row) (form_of_row entity.now.row)
-        (matrix_of_row entity.now.row) (fields_of comma semi (concat lines))
-        ≡ Ok (entity.now.row, entity.now.tail)) }
+/// A record's text in lines, the last one filled up with blanks.
+fn cut(alloc: Global, text: &[u8]) -> Result<Lines, AllocError>
+    ensures lines { IfOk result (AreLines 64 text.now) }
+    ensures held { length text.now < 2 ^ 64 }
 {
-    let tokens = tokens(alloc, entity)?;
-    lay(alloc, &tokens, comma, semi, RECORD_COLUMNS)
-}
-
-fn tokens(alloc: Global, entity: &Entity) -> Result<Tokens, AllocError>
-    requires { IsLawfulRow entity.now.row }
-    ensures { IfOk result (λ tokens. tokens ≡ tokens_of entity.now.row entity.now.tail) }
-{
-    let mut kept = KeptTokens {
-        alloc,
-        tokens: Tokens::new(alloc),
-    };
-    push_record(&mut kept, entity)?;
-    Ok(kept.tokens)
-}
-
-/// A text in lines, the last one filled up with blanks. An empty text has a line of blanks.
-fn kept_lines(alloc: Global, text: &[u8]) -> Result<Lines, AllocError>
-    ensures { IfOk result (AreLines 64 (kept_text text.now)) }
-{
-    if text.is_empty() {
-        lines_of(alloc, b" ", RECORD_COLUMNS)
-    } else {
-        lines_of(alloc, text, RECORD_COLUMNS)
-    }
+    lines_of(alloc, text, RECORD_COLUMNS)
 }

@@ -1,14 +1,15 @@
-use Rattle.std.proofs.Common.{ap, subst, sym, IfOk, ◌∙◌, List, ℕ}
+use Rattle.std.proofs.Common.{subst, IfOk, ◌∙◌, List, ℕ}
+use Rattle.std.proofs.lemmas.Result.{IfOk-weaker}
 use Rattle.iges_fields.specs.Layout.{AreLines}
-use Rattle.iges_parameters.specs.Writing.{kept_text}
-use Rattle.iges_parameters.proofs.WrittenTokens.{text_kept, text_laid, laid_unless}
+use Rattle.iges_parameters.proofs.LaidTexts.{record_back}
 use Rattle.iges_parameters.proofs.writing.written_rows.row_lines.Goals as goal
 
-pub returns-in-Opaque-clause-lines : goal.returns-in-Opaque-clause-lines
-returns-in-Opaque-clause-lines c =
-    subst (λ (text : List ℕ). IfOk c.kept_lines.result (AreLines 64 text)) (ap kept_text c.as_slice.ensures ∙ sym (text_kept c.args.comma c.args.semi _ _ _ _ _ c.args.entity.now.tail c.in-Opaque.is)) c.kept_lines.ensures
+pub returns-clause-lines : goal.returns-clause-lines
+returns-clause-lines c =
+    subst (λ (x : List ℕ). IfOk c.cut.result (AreLines 64 x)) (c.as_slice.ensures ∙ c.in_ok-text.ensures) c.cut.ensures.lines
 
-pub returns-in_default : goal.returns-in_default
-returns-in_default c =
-    let same = sym (text_laid c.args.comma c.args.semi c.args.entity.now.row c.args.entity.now.tail (laid_unless c.args.entity.now.row c.in_default.not-Opaque)) in
-    record { lines = subst (λ (text : List ℕ). IfOk c.laid_lines.result (AreLines 64 text)) same c.laid_lines.ensures.lines; reads_back = c.laid_lines.ensures.reads_back }
+pub returns-clause-reads_back : goal.returns-clause-reads_back
+returns-clause-reads_back c =
+    let e = c.args.entity.now in
+    let text = c.as_slice.result.now in
+    IfOk-weaker c.cut.result _ _ (λ lines are. record_back c.args.comma c.args.semi e.row e.tail text lines c.requires.lawful c.requires.spelt c.requires.delimiters (c.as_slice.ensures ∙ c.in_ok-text.ensures) c.cut.ensures.held are) c.cut.ensures.lines
