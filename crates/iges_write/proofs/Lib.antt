@@ -1,4 +1,5 @@
 pub mod CardSteps
+pub mod Columns
 pub mod LinesIn
 pub mod EntitySteps
 pub mod FileParts

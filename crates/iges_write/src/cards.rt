@@ -1,9 +1,11 @@
 ghost use Rattle.std.specs.Prelude.{◌≡◌, ◌≤◌, ◌<◌, ◌+◌, ◌^◌, ◌++◌, ◌∷◌, length, take, drop};
-ghost use Rattle.std.specs.Prelude.{OnOk, replicate};
+ghost use Rattle.std.specs.Prelude.{IfOk, OnOk, IfSome, None, replicate, decimal};
 ghost use Rattle.std.specs.List.{concat};
-ghost use Rattle.iges_write.specs.Cards.{right_aligned, card, cards};
+ghost use Rattle.iges_write.specs.Cards.{filled, right_aligned, card, cards};
+ghost use Rattle.iges_write.specs.Cards.{lines_wanted, lines_in};
 ghost use Rattle.iges_write.specs.CanonicalFile.{with_number};
 
+use iges_parameters::RECORD_COLUMNS;
 use itoa::Buffer;
 use solid_base::Bytes;
 use std::alloc::AllocError;
@@ -21,14 +23,39 @@ fn push_blanks(out: &mut Vec<u8>, count: usize) -> Result<(), AllocError>
     out.resize(size, b' ')
 }
 
-/// Writes a number right aligned in so many columns.
-pub fn push_number(out: &mut Vec<u8>, width: usize, number: u32) -> Result<(), AllocError>
-    ensures { OnOk result (out.new.items ≡ out.old.items ++ right_aligned width number) }
+/// A number right aligned in so many columns, or none where it has more digits than columns.
+fn columns_of<const N: usize>(number: u32) -> Option<[u8; N]>
+    requires { N ≤ 80 }
+    ensures columns { IfSome result (λ columns. columns ≡ right_aligned N number) }
+    ensures none { result ≡ None → N ≤ length (decimal number) }
 {
-    let mut buffer = Buffer::new();
-    let digits = buffer.format(number).as_bytes();
-    push_blanks(out, width.saturating_sub(digits.len()))?;
-    out.extend_from_slice(digits)
+    let mut columns = [b' '; N];
+    let mut at = N;
+    let mut rest = number;
+    while rest >= 10 && at > 0 {
+        at -= 1;
+        columns[at] = b'0' + (rest % 10) as u8;
+        rest /= 10;
+    }
+    if at == 0 {
+        return None;
+    }
+    columns[at - 1] = b'0' + rest as u8;
+    Some(columns)
+}
+
+/// Writes a number right aligned in so many columns.
+pub fn push_number<const N: usize>(out: &mut Vec<u8>, number: u32) -> Result<(), AllocError>
+    requires { N ≤ 80 }
+    ensures { OnOk result (out.new.items ≡ out.old.items ++ right_aligned N number) }
+{
+    match columns_of::<N>(number) {
+        Some(columns) => out.extend_from_slice(&columns),
+        None => {
+            let mut buffer = Buffer::new();
+            out.extend_from_slice(buffer.format(number).as_bytes())
+        }
+    }
 }
 
 /// Makes a card of the columns that were written from a place on.
@@ -41,7 +68,7 @@ pub fn end_card(out: &mut Vec<u8>, start: usize, letter: u8, number: u32) -> Res
     let columns = out.len() - start;
     push_blanks(out, TEXT_COLUMNS.saturating_sub(columns))?;
     out.push(letter)?;
-    push_number(out, NUMBER_COLUMNS, number)?;
+    push_number::<NUMBER_COLUMNS>(out, number)?;
     out.push(b'\n')?;
     Ok(())
 }
@@ -74,37 +101,43 @@ pub fn push_cards(out: &mut Vec<u8>, letter: u8, lines: &[Bytes]) -> Result<(), 
 }
 
 /// Writes a parameter line of an entity.
-pub fn push_parameter_card(
+fn push_parameter_card(
     out: &mut Vec<u8>,
     entity: u32,
     number: u32,
     line: &[u8],
 ) -> Result<(), AllocError>
-    ensures { OnOk result (out.new.items
-        ≡ out.old.items ++ card 80 number (line.now ++ 32 ∷ right_aligned 7 entity)) }
+    ensures { OnOk result (out.new.items ≡ out.old.items
+        ++ card 80 number (filled 64 line.now ++ 32 ∷ right_aligned 7 entity)) }
 {
     let start = out.len();
     out.extend_from_slice(line)?;
+    push_blanks(out, RECORD_COLUMNS.saturating_sub(line.len()))?;
     out.push(b' ')?;
-    push_number(out, NUMBER_COLUMNS, entity)?;
+    push_number::<NUMBER_COLUMNS>(out, entity)?;
     end_card(out, start, b'P', number)
 }
 
-/// Writes the parameter lines of an entity, numbered on from a number.
+/// Writes the parameter lines in which an entity's record stands, numbered on from a number, and
+/// gives how many they are.
 pub fn push_record(
     out: &mut Vec<u8>,
     entity: u32,
     first: u32,
-    lines: &[Bytes],
-) -> Result<(), AllocError>
-    requires { first + length lines.now < 2 ^ 31 }
-    ensures { OnOk result (out.new.items
-        ≡ out.old.items ++ concat (cards 80 first (with_number entity lines.now))) }
+    text: &[u8],
+) -> Result<u32, AllocError>
+    requires { first + lines_wanted 64 (length text.now) < 2 ^ 31 }
+    ensures written { OnOk result (out.new.items ≡ out.old.items
+        ++ concat (cards 80 first (with_number entity (lines_in 64 text.now)))) }
+    ensures count { IfOk result (λ count. count ≡ lines_wanted 64 (length text.now)) }
 {
     let mut number = first;
-    for line in lines {
-        push_parameter_card(out, entity, number, line.as_slice())?;
+    let mut rest = text;
+    while !rest.is_empty() {
+        let (line, after) = rest.split_at(rest.len().min(RECORD_COLUMNS));
+        push_parameter_card(out, entity, number, line)?;
         number += 1;
+        rest = after;
     }
-    Ok(())
+    Ok(number - first)
 }

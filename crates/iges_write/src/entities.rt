@@ -5,13 +5,13 @@ ghost use Rattle.iges_fields.specs.Delimiters.{AreDelimiters};
 ghost use Rattle.iges_parameters.specs.Accepted.{IsAccepted, IsAcceptedEntity, lines_of};
 ghost use Rattle.iges_parameters.specs.Writing.{type_of_row, form_of_row, matrix_of_row};
 ghost use Rattle.iges_parameters.specs.Writing.{type_of_prim, lines_for, record_text};
-ghost use Rattle.iges_write.specs.Cards.{card, cards};
+ghost use Rattle.iges_write.specs.Cards.{card, cards, lines_wanted, lines_in};
 ghost use Rattle.iges_write.specs.CanonicalFile.{entry_first, entry_second, record_lines};
 ghost use Rattle.iges_write.specs.CanonicalFile.{with_number, directory_lines, parameter_lines};
 
 use crate::cards::{end_card, push_number, push_record};
-use iges_parameters::row_lines;
-use solid_base::{Entity, Model, Prim, Row};
+use iges_parameters::row_text;
+use solid_base::{Bytes, Entity, Model, Prim, Row};
 use std::alloc::{AllocError, Global};
 
 /// The columns of a directory field.
@@ -79,10 +79,10 @@ fn push_entry_first(out: &mut Vec<u8>, first: u32, entity: &Entity) -> Result<()
 {
     let (four, rest) = entity.attrs.as_slice().split_at(32);
     let two = &rest[..16];
-    push_number(out, FIELD_COLUMNS, type_of_row(&entity.row))?;
-    push_number(out, FIELD_COLUMNS, first)?;
+    push_number::<FIELD_COLUMNS>(out, type_of_row(&entity.row))?;
+    push_number::<FIELD_COLUMNS>(out, first)?;
     out.extend_from_slice(four)?;
-    push_number(out, FIELD_COLUMNS, matrix_of_row(&entity.row))?;
+    push_number::<FIELD_COLUMNS>(out, matrix_of_row(&entity.row))?;
     out.extend_from_slice(two)
 }
 
@@ -93,10 +93,10 @@ fn push_entry_second(out: &mut Vec<u8>, count: u32, entity: &Entity) -> Result<(
     ensures { OnOk result (out.new.items ≡ out.old.items ++ entry_second count entity.now) }
 {
     let attrs = entity.attrs.as_slice();
-    push_number(out, FIELD_COLUMNS, type_of_row(&entity.row))?;
+    push_number::<FIELD_COLUMNS>(out, type_of_row(&entity.row))?;
     out.extend_from_slice(&attrs[48..64])?;
-    push_number(out, FIELD_COLUMNS, count)?;
-    push_number(out, FIELD_COLUMNS, form_of_row(&entity.row))?;
+    push_number::<FIELD_COLUMNS>(out, count)?;
+    push_number::<FIELD_COLUMNS>(out, form_of_row(&entity.row))?;
     out.extend_from_slice(&attrs[64..])
 }
 
@@ -132,6 +132,23 @@ fn push_second_card(
     end_card(out, start, b'D', number)
 }
 
+/// Writes the two directory lines of an entity.
+fn push_entry(
+    out: &mut Vec<u8>,
+    place: Place,
+    count: u32,
+    entity: &Entity,
+) -> Result<(), AllocError>
+    requires attributes { length entity.now.attrs ≡ 96 }
+    requires number { place.number < 2 ^ 31 }
+    ensures { OnOk result (out.new.items ≡ out.old.items
+        ++ (card 68 place.number (entry_first place.first entity.now)
+        ++ card 68 (place.number + 1) (entry_second count entity.now))) }
+{
+    push_first_card(out, place.number, place.first, entity)?;
+    push_second_card(out, place.number + 1, count, entity)
+}
+
 /// Where an entity is written: its number, and the number of its first parameter line.
 #[derive(Clone, Copy)]
 struct Place {
@@ -139,34 +156,28 @@ struct Place {
     first: u32,
 }
 
-/// Writes the two directory lines of an entity into one text and its parameter lines into another,
-/// and gives how many parameter lines there are.
+/// Writes the two directory lines of an entity into one text, and the parameter lines in which its
+/// record stands into another, and gives how many parameter lines there are.
 fn push_entity(
-    alloc: Global,
     directory: &mut Vec<u8>,
     params: &mut Vec<u8>,
     entity: &Entity,
-    comma: u8,
-    semi: u8,
+    text: &[u8],
     place: Place,
 ) -> Result<u32, AllocError>
-    requires accepted { IsAcceptedEntity entity.now }
-    requires delimiters { AreDelimiters comma semi }
+    requires attributes { length entity.now.attrs ≡ 96 }
     requires number { place.number < 2 ^ 31 }
-    requires lines { place.first + lines_of comma semi (entity.now ∷ []) < 2 ^ 31 }
+    requires lines { place.first + lines_wanted 64 (length text.now) < 2 ^ 31 }
     ensures directory { OnOk result (directory.new.items ≡ directory.old.items
         ++ (card 68 place.number (entry_first place.first entity.now)
         ++ card 68 (place.number + 1)
-        (entry_second (length (record_lines comma semi entity.now)) entity.now))) }
+        (entry_second (lines_wanted 64 (length text.now)) entity.now))) }
     ensures params { OnOk result (params.new.items ≡ params.old.items ++ concat
-        (cards 80 place.first (with_number place.number (record_lines comma semi entity.now)))) }
-    ensures count { IfOk result (λ count. count ≡ lines_of comma semi (entity.now ∷ [])) }
+        (cards 80 place.first (with_number place.number (lines_in 64 text.now)))) }
+    ensures count { IfOk result (λ count. count ≡ lines_wanted 64 (length text.now)) }
 {
-    let lines = row_lines(alloc, entity, comma, semi)?;
-    let count = lines.len() as u32;
-    push_first_card(directory, place.number, place.first, entity)?;
-    push_second_card(directory, place.number + 1, count, entity)?;
-    push_record(params, place.number, place.first, lines.as_slice())?;
+    let count = push_record(params, place.number, place.first, text)?;
+    push_entry(directory, place, count, entity)?;
     Ok(count)
 }
 
@@ -189,17 +200,11 @@ pub fn push_entities(
         number: 1,
         first: 1,
     };
+    let mut text = Bytes::new(alloc);
     for at in 0..model.rows.len() {
         let entity = model.rows.get(at);
-        let count = push_entity(
-            alloc,
-            directory,
-            params,
-            entity,
-            model.comma,
-            model.semi,
-            place,
-        )?;
+        text = row_text(text, entity, model.comma, model.semi)?;
+        let count = push_entity(directory, params, entity, text.as_slice(), place)?;
         place.number += 2;
         place.first += count;
     }

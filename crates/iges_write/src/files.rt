@@ -78,7 +78,7 @@ fn push_group(out: &mut Vec<u8>, letter: u8, count: u32) -> Result<(), AllocErro
     ensures { OnOk result (out.new.items ≡ out.old.items ++ group letter count) }
 {
     out.push(letter)?;
-    push_number(out, NUMBER_COLUMNS, count)
+    push_number::<NUMBER_COLUMNS>(out, count)
 }
 
 /// Writes the groups of the terminate line.

@@ -1,27 +1,34 @@
-use Rattle.std.proofs.Common.{◌≡◌, ◌∷◌, ◌+◌, ◌++◌, [], List, ℕ, drop, ap, ◌∙◌, arith}
-use Rattle.std.proofs.Math.ListN.{drop_of_length-le}
-use Rattle.iges_write.specs.Cards.{card, right_aligned}
+use Rattle.std.proofs.Common.{rules, arith, ◌≡◌, ◌∷◌, ◌++◌, ◌<◌, List, ℕ, length, drop, min, sym, ap, ◌∙◌, length-drop}
+use Rattle.iges_write.specs.Cards.{filled, right_aligned, lines_in}
 use Rattle.iges_write.specs.CanonicalFile.{with_number}
-use Rattle.iges_write.proofs.CardSteps.{one_more, no_more, cut_at}
+use Rattle.iges_write.proofs.CardSteps.{one_more, no_more}
+use Rattle.iges_write.proofs.LinesIn.{next_line, no_lines}
 use Rattle.iges_write.proofs.cards.push_record.Goals as goal
 
-pub loop-line-preserved : goal.loop-line-preserved
-loop-line-preserved c =
-    let l = c.loop-line in
-    let lines = c.args.lines.now in
-    let line = c.line-item.result in
-    let columns : List ℕ = line ++ 32 ∷ right_aligned 7 c.args.entity in
-    let cut : drop l.line-index lines ≡ line ∷ drop (l.line-index + 1) lines = cut_at l.line-index lines line (omega arith) c.line-item.is in
+pub loop-rest-preserved : goal.loop-rest-preserved
+loop-rest-preserved c =
+    let l = c.loop-rest in
+    let rest = l.rest.now in
+    let line = c.split_at.result.0.now in
+    let after = c.split_at.result.1.now in
+    let k = c.min.result in
+    let some : 0 < length rest = grind (arith, c.is_empty.ensures, c.loop-rest-test.true) in
+    let size : k ≡ min (length rest) 64 = search rules in
+    let cut : lines_in 64 rest ≡ filled 64 line ∷ lines_in 64 after =
+    next_line k rest some size
+    ∙ ap (λ (x : List ℕ). filled 64 x ∷ lines_in 64 (drop k rest)) (sym c.split_at.ensures.front)
+    ∙ ap (λ (x : List ℕ). filled 64 line ∷ lines_in 64 x) (sym c.split_at.ensures.back) in
     let left = ap (with_number c.args.entity) cut in
-    let put = c.in_ok-push_parameter_card.ensures ∙ ap (λ (x : List ℕ). l.out.items ++ card 80 l.number (x ++ 32 ∷ right_aligned 7 c.args.entity)) c.as_slice.ensures in
+    let fewer : length after ≡ length (drop k rest) = ap (λ (x : List ℕ). length x) c.split_at.ensures.back in
+    let columns : List ℕ = filled 64 line ++ 32 ∷ right_aligned 7 c.args.entity in
     record {
-      number = omega (arith, l.invariant.number);
-      so_far = one_more 80 l.number l.out.items c.push_parameter_card.new.out.items columns (with_number c.args.entity (drop l.line-index lines)) (with_number c.args.entity (drop (l.line-index + 1) lines)) _ left put l.invariant.so_far;
+      number = omega (arith, l.invariant.number, some, size, fewer, length-drop k rest);
+      so_far = one_more 80 l.number l.out.items c.push_parameter_card.new.out.items columns (with_number c.args.entity (lines_in 64 rest)) (with_number c.args.entity (lines_in 64 after)) _ left c.in_ok-push_parameter_card.ensures l.invariant.so_far;
     }
 
-pub returns : goal.returns
-returns c =
-    let l = c.loop-line in
-    let lines = c.args.lines.now in
-    let none : drop l.line-index lines ≡ [] = drop_of_length-le lines (omega arith) in
-    no_more 80 l.number l.out.items (with_number c.args.entity (drop l.line-index lines)) _ (ap (with_number c.args.entity) none) l.invariant.so_far
+pub returns-clause-written : goal.returns-clause-written
+returns-clause-written c =
+    let l = c.loop-rest in
+    let rest = l.rest.now in
+    let none : length rest ≡ 0 = grind (arith, c.is_empty.ensures, c.loop-rest-test.false) in
+    no_more 80 l.number l.out.items (with_number c.args.entity (lines_in 64 rest)) _ (ap (with_number c.args.entity) (no_lines rest none)) l.invariant.so_far
