@@ -3,6 +3,7 @@ use Rattle.std.proofs.Common.{◌≡◌, ℕ, suc, ◌+◌, ◌≤◌, ◌<◌, 
 use Rattle.std.specs.List.{AllByRecursion}
 use Rattle.std.proofs.lemmas.List.{length-append}
 use Rattle.solid_base.specs.declared.entities.Entity.{Entity}
+use Rattle.solid_base.specs.Stack.{Stack}
 use Rattle.solid_base.specs.Graph.{most_levels, depth_of, weight_of, AreSound}
 use Rattle.solid_base.specs.Ranges.{IsLawfulRow}
 use Rattle.fixed_enclosure.specs.declared.enclosures.Box3.{Box3}
@@ -11,7 +12,6 @@ use Rattle.entity_graph.specs.Opaque.{ReachesOpaque}
 use Rattle.entity_graph.proofs.Levels.{no_levels}
 use Rattle.solid_eval.specs.declared.level_stack.Level.{Level}
 use Rattle.solid_eval.specs.declared.parts.Part.{Part}
-use Rattle.solid_eval.specs.LevelStack.{LevelStack}
 use Rattle.solid_eval.specs.Solids.{solid_of}
 use Rattle.solid_eval.specs.Uses.{Use, uses}
 use Rattle.solid_eval.specs.Walking.{level_uses, levels_uses, IsLevel, AreLevels, IsStack, IsPart, IsOpened}
@@ -32,26 +32,26 @@ module _ (rows : List Entity) where
   all_popped n m [] l is all = (tt, subst (λ k. IsLevel rows k l) (omega (arith, is)) all.0)
   all_popped n m (x ∷ levels) l is all = let rest = all_popped (suc n) m levels l (omega (arith, is)) all.1 in ((all.0, rest.0), rest.1)
 
-  pub stack_pushed : (old new : LevelStack) (l : Level) → IsStack rows old → IsLevel rows (length old.list) l → new.list ≡ old.list ++ l ∷ [] → new.spare + 1 ≡ old.spare → IsStack rows new
+  pub stack_pushed : (old new : Stack Level) (l : Level) → IsStack rows old → IsLevel rows (length old.list) l → new.list ≡ old.list ++ l ∷ [] → new.spare + 1 ≡ old.spare → IsStack rows new
   stack_pushed old new l h level list spare = record {
     each = subst (AreLevels rows 0) (sym list) (all_pushed 0 (length old.list) old.list l (omega arith) h.each level);
     room = let long : length new.list ≡ length old.list + 1 = ap length list ∙ length-append old.list (l ∷ []) in omega (arith, long, spare, h.room);
   }
 
-  pub stack_popped : (old new : LevelStack) (l : Level) → IsStack rows old → old.list ≡ new.list ++ l ∷ [] → new.spare ≡ old.spare + 1 → IsStack rows new × IsLevel rows (length new.list) l
+  pub stack_popped : (old new : Stack Level) (l : Level) → IsStack rows old → old.list ≡ new.list ++ l ∷ [] → new.spare ≡ old.spare + 1 → IsStack rows new × IsLevel rows (length new.list) l
   stack_popped old new l h list spare =
       let both = all_popped 0 (length new.list) new.list l (omega arith) (subst (AreLevels rows 0) list h.each) in
       let long : length old.list ≡ length new.list + 1 = ap length list ∙ length-append new.list (l ∷ []) in
       (record { each = both.0; room = omega (arith, long, spare, h.room) }, both.1)
 
-  pub has_room : AreSound rows → (levels : LevelStack) (e : ℕ) → IsStack rows levels → depth_of rows e + length levels.list ≤ most_levels → 0 < levels.spare
+  pub has_room : AreSound rows → (levels : Stack Level) (e : ℕ) → IsStack rows levels → depth_of rows e + length levels.list ≤ most_levels → 0 < levels.spare
   has_room sound levels e h deep = let one = (no_levels rows sound.shallow e).depth in omega (arith, one, deep, h.room)
 
   -- ---- a part of a level is taken, and the level is pushed with the place after it
   abbrev after_part : Level → Part → Level
   after_part l part = record { e = l.e; at = l.at; index = part.next }
 
-  pub part_taken : (below pushed : LevelStack) (l : Level) (part : Part) → IsStack rows below → IsLevel rows (length below.list) l → IsPart rows l part
+  pub part_taken : (below pushed : Stack Level) (l : Level) (part : Part) → IsStack rows below → IsLevel rows (length below.list) l → IsPart rows l part
       → pushed.list ≡ below.list ++ after_part l part ∷ [] → pushed.spare + 1 ≡ below.spare → IsStack rows pushed × (depth_of rows part.number + length pushed.list ≤ most_levels)
   part_taken below pushed l part stack level h list spare =
       let long : length pushed.list ≡ length below.list + 1 = ap length list ∙ length-append below.list (after_part l part ∷ []) in
@@ -59,7 +59,7 @@ module _ (rows : List Entity) where
       (stack_pushed below pushed (after_part l part) stack next list spare, omega (arith, long, level.deep, h.less))
 
   -- the uses of the part, those left on its level, and those left on the levels before
-  pub left_below : (below pushed : LevelStack) (l : Level) (part : Part) (rest : List Use) → IsPart rows l part → pushed.list ≡ below.list ++ after_part l part ∷ []
+  pub left_below : (below pushed : Stack Level) (l : Level) (part : Part) (rest : List Use) → IsPart rows l part → pushed.list ≡ below.list ++ after_part l part ∷ []
       → uses (solid_of rows part.number) (spans_of part.at) ++ levels_uses rows pushed.list ≡ rest → level_uses rows l ++ levels_uses rows below.list ≡ rest
   left_below below pushed l part rest h list found =
       let first = uses (solid_of rows part.number) (spans_of part.at) in

@@ -7,5 +7,4 @@ pub mod Causes
 pub mod Taking
 pub mod Interior
 pub mod Passing
-pub mod LevelStack
 pub mod Walking

@@ -4,6 +4,7 @@ use Rattle.std.specs.Prelude.{List, [], ◌∷◌, ◌++◌, length, map, flat_m
 use Rattle.solid_base.specs.declared.entities.Entity.{Entity}
 use Rattle.solid_base.specs.declared.solids.Row.{Row}
 use Rattle.solid_base.specs.declared.solids.Row.TheVariants as row
+use Rattle.solid_base.specs.Stack.{Stack}
 use Rattle.solid_base.specs.Graph.{most_levels, depth_of, weight_of}
 use Rattle.solid_base.specs.References.{target, operands_of, row_at}
 use Rattle.fixed_enclosure.specs.declared.enclosures.Box3.{Box3}
@@ -14,7 +15,6 @@ use Rattle.entity_graph.specs.Opaque.{ReachesOpaque}
 use Rattle.solid_eval.specs.declared.level_stack.Level.{Level}
 use Rattle.solid_eval.specs.declared.parts.Part.{Part}
 use Rattle.solid_eval.specs.declared.use_walk.Walk.{Walk}
-use Rattle.solid_eval.specs.LevelStack.{LevelStack}
 use Rattle.solid_eval.specs.Solids.{solid_of}
 use Rattle.solid_eval.specs.Uses.{Use, uses}
 
@@ -69,7 +69,7 @@ AreLevels rows before [] = Unit {0}
 AreLevels rows before (l ∷ levels) = IsLevel rows before l × AreLevels rows (suc before) levels
 
 -- solidd's own: levels with room for all that a model may have
-pub record IsStack (rows : List Entity) (levels : LevelStack) : Type 0 where
+pub record IsStack (rows : List Entity) (levels : Stack Level) : Type 0 where
   pub each : AreLevels rows 0 levels.list
   pub room : levels.spare + length levels.list ≡ most_levels
 

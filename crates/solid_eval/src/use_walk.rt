@@ -49,6 +49,20 @@ impl Walk {
         })
     }
 
+    /// Starts again, along all uses of an entity over a box, in steps, with the room that the walk
+    /// has. No memory is taken.
+    pub fn restart(&mut self, e: u32, at: &Box3)
+        requires at { IsBox at.now }
+        ensures left { (rows : List Entity) →
+            uses_left rows self.new ≡ uses (solid_of rows e) (spans_of at.now) }
+        ensures walk { (rows : List Entity) → AllByRecursion (λ e. IsLawfulRow e.row) rows →
+            AreSound rows → ((n : ℕ) → ¬ ReachesOpaque rows e n) → IsSolidRow (row_at rows e) →
+            IsWalk rows self.old → IsWalk rows self.new }
+    {
+        self.start = Some((e, *at));
+        self.levels.clear();
+    }
+
     /// The first of the uses that are left: the primitive's number, and the box before its own
     /// matrix, in steps; the others are left. None where no use is left, and then none is left
     /// afterwards. No memory is taken.

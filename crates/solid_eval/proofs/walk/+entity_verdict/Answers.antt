@@ -82,11 +82,11 @@ tree_verdict-loop-item-preserved g t c =
           let number = w.in-Operand.number in
           let v = w.entity_verdict-verdict.result in
           let kept = w.entity_verdict-verdict.ensures.kept in
-          let same : w.entity_verdict-verdict.new.stack.spare ≡ c.loop-item.stack.spare = ap (λ (s : Stack). s.spare) kept in
+          let same : w.entity_verdict-verdict.new.stack.spare ≡ c.loop-item.stack.spare = ap (λ (s : Stack Verdict). s.spare) kept in
           let heavy = operand_rest (λ n. 1 ≤ weight n) items index _ inside number w.in-Operand.is here.heavy in
           let counts = operand_counts weight items index number _ inside w.in-Operand.is in
-          let put = ap (λ (s : Stack). s.list) w.stack-is ∙ (rw w.unwrap.ensures at w.push.ensures.ok) ∙ ap (λ (s : Stack). s.list ++ v ∷ []) kept in
-          let less = ap (λ (s : Stack). s.spare + 1) w.stack-is ∙ (rw w.unwrap.ensures at w.push.ensures.spare) (omega (arith, same, counts, heavy.0, here.room)) ∙ same in
+          let put = ap (λ (s : Stack Verdict). s.list) w.stack-is ∙ (rw w.unwrap.ensures at w.push.ensures.ok) ∙ ap (λ (s : Stack Verdict). s.list ++ v ∷ []) kept in
+          let less = ap (λ (s : Stack Verdict). s.spare + 1) w.stack-is ∙ (rw w.unwrap.ensures at w.push.ensures.spare) (omega (arith, same, counts, heavy.0, here.room)) ∙ same in
           let long = pushed_length stack c.match-item.stack.list v put in
           record {
             heavy = heavy.1;
@@ -101,8 +101,8 @@ tree_verdict-loop-item-preserved g t c =
           let o = operation_of _ w.in-Join.is in
           let counts = operation_counts weight items index _ o.0 inside o.1 in
           let taken : (below : List Verdict) (a b : Verdict) → stack ≡ below ++ a ∷ b ∷ [] → c.match-item.stack.list ≡ below ++ verdict_of o.0 a b ∷ [] =
-          λ below a b is. ap (λ (s : Stack). s.list) w.stack-is ∙ w.apply.ensures.verdict o.0 below a b o.1 is in
-          let more = ap (λ (s : Stack). s.spare) w.stack-is ∙ w.apply.ensures.spare in
+          λ below a b is. ap (λ (s : Stack Verdict). s.list) w.stack-is ∙ w.apply.ensures.verdict o.0 below a b o.1 is in
+          let more = ap (λ (s : Stack Verdict). s.spare) w.stack-is ∙ w.apply.ensures.spare in
           let long = joined_length items index _ inside _ _ stack (here.rest place.0 place.1 _ _ all).0 o.0 c.match-item.stack.list o.1 taken in
           record {
             heavy = operation_rest (λ n. 1 ≤ weight n) items index _ inside o.0 o.1 here.heavy;
@@ -156,7 +156,7 @@ assembly_verdict-loop-placed-preserved g t c =
     let seen = g.S.Leaves.seen in
     let none : Placed = record { item = 0; matrix = 0 } in
     let counts = item_counts (weight_of c.args.rows.now) items index none c.loop-placed-test.true in
-    let same : c.entity_verdict-verdict.new.stack.spare ≡ c.loop-placed.stack.spare = ap (λ (s : Stack). s.spare) c.entity_verdict-verdict.ensures.kept in
+    let same : c.entity_verdict-verdict.new.stack.spare ≡ c.loop-placed.stack.spare = ap (λ (s : Stack Verdict). s.spare) c.entity_verdict-verdict.ensures.kept in
     record {
       kept = c.entity_verdict-verdict.ensures.kept ∙ c.loop-placed.invariant.kept;
       room = omega (arith, counts, same, c.loop-placed.invariant.room);
