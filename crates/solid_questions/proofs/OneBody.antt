@@ -8,7 +8,7 @@ use Rattle.volume_bounds.proofs.Extremes.{one_extent}
 use Rattle.volume_bounds.proofs.SomeExtent.{some_extent, never_both}
 use Rattle.solid_questions.specs.declared.questions.Question.{Question}
 use Rattle.solid_questions.specs.declared.questions.Question.TheVariants as question
-use Rattle.solid_questions.specs.Questions.{IsServed}
+use Rattle.solid_questions.specs.Questions.{IsOfRows}
 use Rattle.solid_questions.specs.Bodies.{IsBody, IsBounds, bounds_words}
 
 some_bounds : (verdicts : List Verdict) (cube : Cube) (depth : ℕ) → (text : List ℕ) × IsBounds verdicts cube depth text
@@ -25,7 +25,7 @@ same_bounds verdicts cube depth a b (inl f) (inr all) = absurd (never_both verdi
 same_bounds verdicts cube depth a b (inr all) (inl g) = absurd (never_both verdicts cube g.0 (parts_of depth) g.1 all.0)
 same_bounds verdicts cube depth a b (inr p) (inr q) = p.1 ∙ sym q.1
 
-pub some_body : (q : Question) (r : Row) (verdicts : List Verdict) → IsServed q → (text : List ℕ) × IsBody q r verdicts text
+pub some_body : (q : Question) (r : Row) (verdicts : List Verdict) → IsOfRows q → (text : List ℕ) × IsBody q r verdicts text
 some_body (question.Point e at) r verdicts is = (_, refl)
 some_body (question.Cell e cube) r verdicts is = (_, refl)
 some_body (question.Items e) r verdicts is = (_, refl)

@@ -153,7 +153,7 @@ IsBounds verdicts cube depth text =
 -- ---- all questions
 
 -- solidd's own: this is the text of the answer to a question that isn't refused, by the row of its
--- entity and the verdicts on its cells. Exports aren't answered yet
+-- entity and the verdicts on its cells. An export isn't answered from these
 abbrev pub IsBody : Question → Row → List Verdict → List ℕ → Type 0
 IsBody (question.Point e at) r verdicts text = text ≡ one_verdict verdicts
 IsBody (question.Cell e cube) r verdicts text = text ≡ one_verdict verdicts

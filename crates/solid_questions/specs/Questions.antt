@@ -61,13 +61,13 @@ entity_of (question.Bounds e cube depth) = e
 entity_of question.Export = 0
 entity_of question.Newest = 0
 
--- solidd's own: a question that is answered yet: any but an export
-abbrev pub IsServed : Question → Type 0
-IsServed (question.Point e at) = Unit {0}
-IsServed (question.Cell e cube) = Unit {0}
-IsServed (question.Items e) = Unit {0}
-IsServed (question.Section e z x0 y0 step nx ny) = Unit {0}
-IsServed (question.Volume e cube depth) = Unit {0}
-IsServed (question.Bounds e cube depth) = Unit {0}
-IsServed question.Export = ⊥
-IsServed question.Newest = Unit {0}
+-- solidd's own: a question that is answered from the rows of a model alone: any but an export
+abbrev pub IsOfRows : Question → Type 0
+IsOfRows (question.Point e at) = Unit {0}
+IsOfRows (question.Cell e cube) = Unit {0}
+IsOfRows (question.Items e) = Unit {0}
+IsOfRows (question.Section e z x0 y0 step nx ny) = Unit {0}
+IsOfRows (question.Volume e cube depth) = Unit {0}
+IsOfRows (question.Bounds e cube depth) = Unit {0}
+IsOfRows question.Export = ⊥
+IsOfRows question.Newest = Unit {0}

@@ -2,7 +2,7 @@ ghost use Rattle.std.specs.Prelude.{◌≡◌, ◌<◌, ◌≤◌, ◌++◌, ℕ
 ghost use Rattle.std.specs.Prelude.{option_copied, codes};
 ghost use Rattle.std.specs.List.{flat_map};
 ghost use mathlib.Core.List.{IsPrefix};
-ghost use Rattle.solid_questions.specs.Questions.{IsLawful, IsServed};
+ghost use Rattle.solid_questions.specs.Questions.{IsLawful, IsOfRows};
 ghost use Rattle.solid_base.specs.Range.{IsCube, IsPointWithin, far};
 ghost use Rattle.solid_base.specs.declared.solids.Row.{Row};
 ghost use Rattle.solid_questions.specs.QuestionCells.{cell_count, grid_cells};
@@ -97,7 +97,7 @@ pub fn push_body(
     verdicts: &Verdicts,
 ) -> Result<(), AllocError>
     requires lawful { IsLawful question.now }
-    requires served { IsServed question.now }
+    requires of_rows { IsOfRows question.now }
     requires cells { cell_count question.now ≡ Some (length verdicts.now.list) }
     ensures body { OnOk result ((body : List ℕ) × IsBody question.now
         (lent_row (option_copied row.entry)) verdicts.now.list body

@@ -10,7 +10,7 @@ ghost use Rattle.volume_bounds.specs.Counts.{inside_count, not_outside_count};
 ghost use Rattle.solid_questions.specs.declared.questions.Question.{Question};
 ghost use Rattle.solid_questions.specs.Bodies.{IsBody, class_sign, section_line};
 ghost use Rattle.solid_questions.specs.Bodies.{volume_below, volume_above};
-ghost use Rattle.solid_questions.specs.Questions.{IsLawful, IsServed};
+ghost use Rattle.solid_questions.specs.Questions.{IsLawful, IsOfRows};
 ghost use Rattle.solid_questions.specs.QuestionCells.{all_cells, cell, cell_count};
 
 /// A question's cells are as many as it has, and each stands at its place.
@@ -23,7 +23,7 @@ pub fn cell_order()
 /// A question that is answered has one text by the row of its entity and the verdicts on its cells,
 /// and one alone.
 pub fn one_body()
-    ensures some { (q : Question) (r : Row) (verdicts : List Verdict) → IsServed q →
+    ensures some { (q : Question) (r : Row) (verdicts : List Verdict) → IsOfRows q →
         (text : List ℕ) × IsBody q r verdicts text }
     ensures once { (q : Question) (r : Row) (verdicts : List Verdict) (a b : List ℕ) →
         IsBody q r verdicts a → IsBody q r verdicts b → a ≡ b }
