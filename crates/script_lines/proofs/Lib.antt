@@ -10,6 +10,7 @@ pub mod TableLaws
 pub mod NameLaws
 pub mod OneLine
 pub mod LineRead
+pub mod RecordLaws
 mod LineFacts
 pub mod SessionLaws
 mod StandardFacts

@@ -1,7 +1,6 @@
 -- The lines of a script go to their sessions one after the other.
-use Rattle.std.proofs.Common.{◌≡◌, ℕ, zero, suc, ◌+◌, ◌<◌, ◌==◌, Bool, true, false, cond, List, [], ◌∷◌, ◌++◌, length, map, take, drop, get_or, set, refl, sym, ap, subst, ◌∙◌, arith, append_assoc, append-nil, drop_of_length-le}
+use Rattle.std.proofs.Common.{◌≡◌, ℕ, zero, suc, ◌+◌, ◌<◌, ◌==◌, Bool, true, false, cond, List, [], ◌∷◌, ◌++◌, length, map, get_or, set, refl, sym, ap, subst, ◌∙◌, arith, append_assoc, append-nil}
 use Rattle.std.proofs.lemmas.Grind.{common_steps}
-use Rattle.std.proofs.lemmas.List.{take_all}
 use Rattle.std.specs.List.{AllByRecursion, range_with_len}
 use Rattle.script_lines.specs.declared.commands.Command.{Command}
 use Rattle.script_lines.specs.declared.commands.ScriptLine.{ScriptLine}
@@ -70,12 +69,6 @@ range_push a (suc n) =
     ap (λ (l : List SessionLines). session_by [] a ∷ l) (range_push (a + 1) n ∙ ap (λ (k : ℕ). map (session_by []) (range_with_len (a + 1) n) ++ session_by [] k ∷ []) e)
 
 -- ---- the lines so far
-
--- what a slice of a whole list writes back
-pub written_back : {A : Type 0} (now items : List A) (size : ℕ) → length now ≡ length items → size ≡ length items → take size (now ++ drop (length now) items) ≡ now
-written_back now items size same whole =
-    let none : drop (length now) items ≡ [] = drop_of_length-le items (omega (arith, same)) in
-    ap (λ rest. take size (now ++ rest)) none ∙ ap (take size) (append-nil now) ∙ take_all size now (omega (arith, same, whole))
 
 -- the lines before the rest of a script stand in their sessions
 pub record Gathered (script rest : List ℕ) (sessions : List SessionLines) (order : List ℕ) : Type 0 where

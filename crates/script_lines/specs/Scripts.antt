@@ -1,5 +1,7 @@
 -- Scripts: the lines that aren't skipped, each with its session and its command. solidd's own.
-use Rattle.std.specs.Prelude.{◌<◌, ◌≤◌, ℕ, List, [], ◌∷◌}
+use Rattle.std.specs.Prelude.{◌<◌, ◌≤◌, ℕ, List, [], ◌∷◌, length}
+use Rattle.std.specs.List.{AllByRecursion}
+use Rattle.solid_base.specs.Texts.{IsOneLine}
 use Rattle.solid_questions.specs.Questions.{IsLawful}
 use Rattle.script_lines.specs.declared.commands.Command.{Command}
 use Rattle.script_lines.specs.declared.commands.Command.TheVariants as command
@@ -24,6 +26,23 @@ TakesMemory (command.Add de r) = Unit {0}
 TakesMemory (command.Drop de) = ⊥
 TakesMemory command.Commit = ⊥
 TakesMemory (command.Bad f) = ⊥
+
+-- solidd's own: a text is one line of at most so many bytes
+abbrev pub IsLineWithin : ℕ → List ℕ → Type 0
+IsLineWithin most text = IsOneLine text × (length text ≤ most)
+
+-- solidd's own: the record of a command, where it has one, is one line of at most so many bytes
+abbrev pub HasRecordWithin : ℕ → Command → Type 0
+HasRecordWithin most (command.Ask q live) = Unit {0}
+HasRecordWithin most (command.Replace de r) = IsLineWithin most r.text
+HasRecordWithin most (command.Add de r) = IsLineWithin most r.text
+HasRecordWithin most (command.Drop de) = Unit {0}
+HasRecordWithin most command.Commit = Unit {0}
+HasRecordWithin most (command.Bad f) = Unit {0}
+
+-- solidd's own: each record of the lines is one line of at most so many bytes
+abbrev pub HaveRecordsWithin : ℕ → List ScriptLine → Type 0
+HaveRecordsWithin most lines = AllByRecursion (λ line. HasRecordWithin most line.command) lines
 
 -- solidd's own: a line belongs to one of the sessions, and its numbers are in their ranges
 abbrev pub IsLawfulLine : ScriptLine → Type 0

@@ -7,6 +7,7 @@ ghost use Rattle.script_lines.specs.declared.commands.ScriptLine.{ScriptLine};
 ghost use Rattle.script_lines.specs.Grammar.{IsLine};
 ghost use Rattle.script_lines.specs.Lines.{kept_lines};
 ghost use Rattle.script_lines.specs.Scripts.{IsLawfulCommand, IsLawfulLine, TakesMemory};
+ghost use Rattle.script_lines.specs.Scripts.{HasRecordWithin};
 ghost use Rattle.script_lines.specs.Tables.{has_record, row_with};
 ghost use Rattle.script_lines.specs.Reading.{command_at, named_command, command_or_bad, line_in};
 ghost use Rattle.script_lines.specs.Reading.{ended_with};
@@ -230,7 +231,8 @@ impl<'a> ScriptReader<'a> {
     }
 
     /// The next line that isn't skipped. None exactly where no such line is left. AllocError when
-    /// out of memory, which only a line takes that brings a row; nothing is read then.
+    /// out of memory, which only a line takes that brings a row; nothing is read then. The record
+    /// of a row is one line, and no longer than what was left to read.
     pub fn next(&mut self, alloc: Global) -> Result<Option<ScriptLine>, AllocError>
         ensures found { IfOk result (λ found. IfSome found (λ line. (text : List ℕ)
             × (kept_lines self.old ≡ text ∷ kept_lines self.new) × IsLine text line)) }
@@ -243,6 +245,8 @@ impl<'a> ScriptReader<'a> {
             × TakesMemory line.command) }
         ensures unchanged { OnErr result (self.new ≡ self.old) }
         ensures lawful { IfOk result (λ found. IfSome found IsLawfulLine) }
+        ensures record_within { IfOk result (λ found. IfSome found (λ line.
+            HasRecordWithin (length self.old) line.command)) }
     {
         let Some((line, rest)) = first_kept(self.rest) else {
             return Ok(None);

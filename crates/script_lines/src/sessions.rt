@@ -2,7 +2,7 @@ ghost use Rattle.std.specs.Prelude.{◌≡◌, ◌<◌, ◌≤◌, ◌^◌, [], 
 ghost use Rattle.std.specs.Prelude.{IfOk, OnOk};
 ghost use Rattle.std.specs.List.{AllByRecursion, filter};
 ghost use Rattle.script_lines.specs.declared.commands.ScriptLine.{ScriptLine};
-ghost use Rattle.script_lines.specs.Scripts.{IsLawfulLine, IsScript};
+ghost use Rattle.script_lines.specs.Scripts.{IsLawfulLine, IsScript, HaveRecordsWithin};
 ghost use Rattle.script_lines.specs.Sessions.{all_sessions, session_by, sessions_of, order_of};
 ghost use Rattle.script_lines.specs.Sessions.{has_line, with_command};
 
@@ -57,8 +57,8 @@ fn keep_used(sessions: &mut Vec<SessionLines>)
 pub fn read_sessions(alloc: Global, bytes: &[u8]) -> Result<ScriptSessions, AllocError>
     requires { length bytes.now ≤ 2 ^ 25 }
     ensures { IfOk result (λ script. (lines : List ScriptLine) × IsScript bytes.now lines ×
-        AllByRecursion IsLawfulLine lines × (script.sessions.items ≡ sessions_of lines) ×
-        (script.order ≡ order_of lines)) }
+        AllByRecursion IsLawfulLine lines × HaveRecordsWithin (length bytes.now) lines ×
+        (script.sessions.items ≡ sessions_of lines) × (script.order ≡ order_of lines)) }
 {
     let mut sessions = new_sessions(alloc)?;
     let mut order = Numbers::new(alloc);
@@ -76,7 +76,8 @@ pub fn read_sessions(alloc: Global, bytes: &[u8]) -> Result<ScriptSessions, Allo
 pub fn read_script(alloc: Global, bytes: &[u8]) -> Result<Vec<SessionLines>, AllocError>
     requires { length bytes.now ≤ 2 ^ 25 }
     ensures { IfOk result (λ sessions. (lines : List ScriptLine) × IsScript bytes.now lines ×
-        AllByRecursion IsLawfulLine lines × (sessions.items ≡ sessions_of lines)) }
+        AllByRecursion IsLawfulLine lines × HaveRecordsWithin (length bytes.now) lines ×
+        (sessions.items ≡ sessions_of lines)) }
 {
     Ok(read_sessions(alloc, bytes)?.sessions)
 }
@@ -86,7 +87,8 @@ pub fn read_script(alloc: Global, bytes: &[u8]) -> Result<Vec<SessionLines>, All
 pub fn read_order(alloc: Global, bytes: &[u8]) -> Result<Numbers, AllocError>
     requires { length bytes.now ≤ 2 ^ 25 }
     ensures { IfOk result (λ order. (lines : List ScriptLine) × IsScript bytes.now lines ×
-        AllByRecursion IsLawfulLine lines × (order ≡ order_of lines)) }
+        AllByRecursion IsLawfulLine lines × HaveRecordsWithin (length bytes.now) lines ×
+        (order ≡ order_of lines)) }
 {
     Ok(read_sessions(alloc, bytes)?.order)
 }

@@ -1,8 +1,10 @@
 use Rattle.std.proofs.Common.{◌≡◌, ◌∙◌, [], List, ℕ, length, length-set, get_or, set, ap, arith}
 use Rattle.std.specs.List.{filter}
+use Rattle.solid_base.proofs.Slices.{written_back}
 use Rattle.script_lines.specs.declared.commands.SessionLines.{SessionLines}
 use Rattle.script_lines.specs.Sessions.{session_by, sessions_of, has_line, with_command}
-use Rattle.script_lines.proofs.SessionLaws.{gathered_push, gathered_all, gathered_size, written_back}
+use Rattle.script_lines.proofs.RecordLaws.{script_within}
+use Rattle.script_lines.proofs.SessionLaws.{gathered_push, gathered_all, gathered_size}
 use Rattle.script_lines.proofs.sessions.read_sessions.Goals as goal
 
 pub push_line-requires : goal.push_line-requires
@@ -36,4 +38,5 @@ returns c =
     let here = c.loop-order.invariant in
     let none = rw c.in_default.is at c.in_ok-line.ensures.none in
     let kept : c.keep_used.new.sessions.items ≡ sessions_of here.lines = c.keep_used.ensures ∙ ap (filter has_line) here.kept in
-    (here.lines, gathered_all c.args.bytes.now c.loop-order.reader c.loop-order.sessions.items c.loop-order.order here none.0, here.lawful, kept, here.ordered)
+    let script = gathered_all c.args.bytes.now c.loop-order.reader c.loop-order.sessions.items c.loop-order.order here none.0 in
+    (here.lines, script, here.lawful, script_within c.args.bytes.now here.lines script, kept, here.ordered)
