@@ -1,5 +1,5 @@
 -- The faults of single changes.
-use Rattle.std.proofs.Common.{◌≡◌, ◌≢◌, ℕ, Bool, true, false, List, Result, Ok, Err, IfOk, IfErr, refl, subst, arith}
+use Rattle.std.proofs.Common.{◌≡◌, ℕ, Bool, true, false, List, Result, Ok, Err, IfOk, IfErr, refl, arith}
 use Rattle.solid_base.specs.declared.entities.Entity.{Entity}
 use Rattle.solid_base.specs.declared.entities.RowText.{RowText}
 use Rattle.iges_parameters.specs.declared.faults.RowFault.{RowFault}
@@ -8,7 +8,6 @@ use Rattle.iges_parameters.specs.RecordFaults.{IsRecordFaultIn}
 use Rattle.iges_parameters.specs.Faults as rows
 use Rattle.edit_core.specs.declared.changes.Change.TheVariants as change
 use Rattle.edit_core.specs.declared.faults.EditFault.{EditFault}
-use Rattle.edit_core.specs.declared.faults.EditFault.TheVariants as fault
 use Rattle.edit_core.specs.EditFaults.{IsOfText, of_record, of_graph}
 use Rattle.entity_graph.specs.declared.graph_faults.GraphFault.{GraphFault}
 use Rattle.entity_graph.specs.declared.graph_faults.GraphFault.TheVariants as graph

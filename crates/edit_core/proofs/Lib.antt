@@ -3,10 +3,17 @@ pub mod ReadRows
 pub mod Placing
 pub mod Ready
 pub mod ChangeFaults
+pub mod LineTotals
 pub mod RowsAfter
 pub mod Uses
 pub mod NextVersions
 pub mod Refusals
 pub mod OneOutcome
 pub mod OneVersion
+pub mod SomeOutcome
+pub mod LawfulRows
+pub mod AcceptedEdits
+pub mod Logs
+pub mod StampsOfLogs
+pub mod SameReach
 pub mod StandardFacts

@@ -1,14 +1,15 @@
 -- The version after an edit: its model is accepted, and its stamps are those of what changed.
-use Rattle.std.proofs.Common.{◌≡◌, ◌≢◌, ◌⊎◌, inl, inr, ℕ, zero, suc, ◌+◌, ◌-◌, ◌*◌, ◌<◌, ◌≤◌, ◌/◌, ◌%◌, ◌==◌, Bool, true, false, cond, List, [], ◌∷◌, ◌++◌, length, map, Option, Some, None, slice_get, Contains, refl, sym, ap, subst, ◌∙◌, arith, append-nil, append_assoc}
+use Rattle.std.proofs.Common.{◌≡◌, inl, inr, ℕ, zero, suc, ◌+◌, ◌-◌, ◌*◌, ◌<◌, ◌≤◌, ◌/◌, ◌%◌, ◌==◌, Bool, true, false, cond, List, [], ◌∷◌, ◌++◌, length, map, Some, None, slice_get, Contains, refl, sym, ap, subst, ◌∙◌, arith, append-nil}
 use Rattle.std.specs.List.{AllByRecursion}
 use Rattle.std.proofs.lemmas.Bool.{cases_lt}
 use Rattle.std.proofs.lemmas.List.Elements.{Contains-append_left, Contains-append_right}
 use Rattle.solid_base.specs.declared.entities.Entity.{Entity}
+use Rattle.solid_base.specs.declared.entities.Model.{Model}
 use Rattle.solid_base.specs.declared.references.Reference.{Reference}
 use Rattle.solid_base.specs.declared.references.Reference.TheVariants as reference
 use Rattle.solid_base.specs.declared.solids.Row.{Row}
 use Rattle.solid_base.specs.declared.solids.Row.TheVariants as row
-use Rattle.solid_base.specs.References.{at_number, row_at, references_of, matrix_named, operands_of, items_of, matrices_of}
+use Rattle.solid_base.specs.References.{at_number, references_of, matrix_named, operands_of, items_of, matrices_of}
 use Rattle.solid_base.specs.Graph.{AreSound, IsDangling}
 use Rattle.solid_base.specs.Ranges.{most_whole}
 use Rattle.iges_parameters.specs.Accepted.{IsAccepted, IsAcceptedEntity, IsWritable, lines_of, most_lines, most_entities}
@@ -16,9 +17,9 @@ use Rattle.iges_parameters.specs.Writing.{IsOfRecord, matrix_of_row}
 use Rattle.entity_graph.specs.Stamps.{IsStamp}
 use Rattle.edit_core.specs.declared.table.Frame.{Frame}
 use Rattle.edit_core.specs.Batches.{Staged}
-use Rattle.edit_core.specs.Edits.{AreAfter, MayBegin, IsEdited}
+use Rattle.edit_core.specs.Edits.{AreAfter, MayBegin}
 use Rattle.edit_core.specs.Placing.{IsReady}
-use Rattle.edit_core.specs.Versions.{numbers_from, changed_numbers, Version, version_of, IsNext}
+use Rattle.edit_core.specs.Versions.{numbers_from, changed_numbers, version_of, IsNext}
 use Rattle.edit_core.proofs.Placing.{standing, has_odd, at_odd}
 use Rattle.edit_core.proofs.RowsAfter.{few_after}
 use Rattle.edit_core.proofs.Uses.{row_of_place}
@@ -100,15 +101,15 @@ places P Q (x ∷ xs) h all = (h 0 x refl all.0, places P Q xs (λ at y is. h (s
 pub all_writable : (rows : List Entity) → AllByRecursion IsReady rows → AllByRecursion IsWritable rows
 all_writable rows all = places IsReady IsWritable rows (λ at e is ready. ready.writable) all
 
-pub accepted_after : (n m : ℕ) (frame : Frame) (rows after : List Entity) (stamps others : List ℕ) (batch : List Staged) → IsAccepted (version_of n frame rows stamps).model → AreAfter rows batch after
-    → AllByRecursion IsReady after → AreSound after → ((comma semi : ℕ) → lines_of comma semi after ≤ most_lines) → IsAccepted (version_of m frame after others).model
-accepted_after n m frame rows after stamps others batch h made ready sound lines =
-    let few = few_after rows after batch h.few_entities made in
+pub accepted_rows : (m : Model) (after : List Entity) (batch : List Staged) → IsAccepted m → AreAfter m.rows batch after → AllByRecursion IsReady after → AreSound after → lines_of m.comma m.semi after ≤ most_lines
+    → IsAccepted (record { start = m.start; comma = m.comma; semi = m.semi; global = m.global; rows = after })
+accepted_rows m after batch h made ready sound lines =
+    let few = few_after m.rows after batch h.few_entities made in
     record {
       few_entities = few;
       entities = places IsReady IsAcceptedEntity after (λ at e is one. ready_accepted after at e few sound is one) ready;
       references = sound;
-      few_lines = lines frame.comma frame.semi;
+      few_lines = lines;
       delimiters = h.delimiters;
       some_start = h.some_start;
       few_start = h.few_start;
@@ -118,12 +119,17 @@ accepted_after n m frame rows after stamps others batch h made ready sound lines
       few_global = h.few_global;
     }
 
+pub accepted_after : (n m : ℕ) (frame : Frame) (rows after : List Entity) (stamps others : List ℕ) (batch : List Staged) → IsAccepted (version_of n frame rows stamps).model → AreAfter rows batch after
+    → AllByRecursion IsReady after → AreSound after → lines_of frame.comma frame.semi after ≤ most_lines → IsAccepted (version_of m frame after others).model
+accepted_after n m frame rows after stamps others batch h made ready sound lines =
+    accepted_rows (version_of n frame rows stamps).model after batch h made ready sound lines
+
 pub next_is : (n : ℕ) (frame : Frame) (rows after : List Entity) (stamps others changed : List ℕ) (batch : List Staged) → MayBegin n batch → AreAfter rows batch after → AreSound after
-    → ((comma semi : ℕ) → lines_of comma semi after ≤ most_lines) → changed ≡ changed_numbers batch (length rows) (length after) → length others ≡ length after
+    → lines_of frame.comma frame.semi after ≤ most_lines → changed ≡ changed_numbers batch (length rows) (length after) → length others ≡ length after
     → ((e s : ℕ) → at_number others e ≡ Some s → IsStamp after changed (suc n) stamps e s) → IsNext (version_of n frame rows stamps) batch (version_of (suc n) frame after others)
 next_is n frame rows after stamps others changed batch may made sound lines is one_each renewed = record {
   number = refl;
-  model = record { may = may; rows = made; sound = sound; few = lines frame.comma frame.semi; start = refl; comma = refl; semi = refl; global = refl };
+  model = record { may = may; rows = made; sound = sound; few = lines; start = refl; comma = refl; semi = refl; global = refl };
   one_each = one_each;
   stamps = λ e s at. subst (λ (ns : List ℕ). IsStamp after ns (suc n) stamps e s) is (renewed e s at);
 }

@@ -1,15 +1,10 @@
 -- A batch makes one model, or is refused by one first fault, and never both.
-use Rattle.std.proofs.Common.{◌≡◌, ◌≢◌, ◌⊎◌, inl, inr, ℕ, zero, suc, ◌+◌, ◌*◌, ◌<◌, ◌≤◌, ◌/◌, ◌%◌, ◌==◌, Bool, true, false, List, [], ◌∷◌, ◌++◌, length, drop, get_or, Option, Some, None, Ok, Err, slice_get, refl, sym, ap, subst, ◌∙◌, arith}
+use Rattle.std.proofs.Common.{◌≡◌, ◌⊎◌, inl, inr, ℕ, List, [], ◌∷◌, ◌++◌, drop, get_or, Ok, refl, sym, ap, subst, ◌∙◌}
 use Rattle.std.specs.List.{AllByRecursion}
-use Rattle.std.proofs.lemmas.Bool.{cases_lt}
 use Rattle.solid_base.specs.declared.entities.Entity.{Entity}
-use Rattle.solid_base.specs.declared.entities.Model.{Model}
 use Rattle.solid_base.specs.declared.entities.RowText.{RowText}
 use Rattle.solid_base.specs.declared.entities.Token.{Token}
 use Rattle.solid_base.specs.declared.solids.Row.{Row}
-use Rattle.solid_base.specs.References.{at_number, HasNumber, Refers}
-use Rattle.solid_base.specs.Graph.{AreSound}
-use Rattle.iges_parameters.specs.Accepted.{lines_of, most_lines}
 use Rattle.iges_parameters.specs.declared.faults.RowFault.{RowFault}
 use Rattle.iges_parameters.specs.RecordFields.{fields_of}
 use Rattle.iges_parameters.specs.Records.{record_in}
@@ -19,9 +14,8 @@ use Rattle.edit_core.specs.declared.changes.Change.{Change}
 use Rattle.edit_core.specs.declared.changes.Change.TheVariants as change
 use Rattle.edit_core.specs.declared.faults.EditFault.{EditFault}
 use Rattle.edit_core.specs.declared.faults.EditFault.TheVariants as fault
-use Rattle.edit_core.specs.Batches.{Staged, IsStaged}
+use Rattle.edit_core.specs.Batches.{Staged}
 use Rattle.edit_core.specs.Edits.{edit_comma, edit_semi, Stands, IsNumberToAdd, IsMade, CanBeMade, IsPlaced, AreAfter, IsChangeFault, IsFirstChangeFault, nothing_to_replace, nothing_to_drop, taken, bad_number, bad_replacement, bad_addition}
-use Rattle.edit_core.proofs.Placing.{at_odd}
 
 -- ---- one change
 

@@ -1,5 +1,5 @@
 -- The rows after a batch are one list, and its faults on them are one.
-use Rattle.std.proofs.Common.{◌≡◌, ◌≢◌, ◌⊎◌, inl, inr, ℕ, zero, suc, ◌+◌, ◌*◌, ◌<◌, ◌≤◌, ◌/◌, ◌%◌, ◌==◌, Bool, true, false, List, [], ◌∷◌, ◌++◌, length, map, Option, Some, None, Ok, Err, Contains, slice_get, refl, sym, ap, subst, ◌∙◌, arith}
+use Rattle.std.proofs.Common.{◌≡◌, ◌≢◌, ◌⊎◌, inl, inr, ℕ, zero, suc, ◌+◌, ◌*◌, ◌<◌, ◌/◌, ◌%◌, ◌==◌, Bool, true, false, List, [], ◌∷◌, length, map, Option, Some, slice_get, refl, sym, ap, subst, ◌∙◌, arith}
 use Rattle.std.specs.List.{AllByRecursion}
 use Rattle.std.proofs.lemmas.Bool.{cases_lt}
 use Rattle.std.proofs.lemmas.Option.{slice_get_read}
@@ -9,13 +9,12 @@ use Rattle.solid_base.specs.declared.entities.Token.{Token}
 use Rattle.solid_base.specs.declared.references.Reference.{Reference}
 use Rattle.solid_base.specs.declared.solids.Row.{Row}
 use Rattle.solid_base.specs.declared.solids.Row.TheVariants as row
-use Rattle.solid_base.specs.References.{at_number, row_at, row_or_null, references_of, target, HasNumber, Refers}
+use Rattle.solid_base.specs.References.{at_number, row_at, row_or_null, references_of, target, Refers}
 use Rattle.solid_base.specs.Graph.{AreSound, IsDangling}
 use Rattle.iges_parameters.specs.Accepted.{lines_of, most_lines}
 use Rattle.iges_parameters.proofs.ItemsSteps.{ok_same}
 use Rattle.entity_graph.specs.declared.graph_faults.GraphFault.{GraphFault}
 use Rattle.entity_graph.specs.declared.graph_faults.GraphFault.TheVariants as graph
-use Rattle.entity_graph.specs.FirstFaults.{IsFault}
 use Rattle.entity_graph.proofs.Outcomes.{one_fault, never_both}
 use Rattle.edit_core.specs.declared.changes.Change.{Change}
 use Rattle.edit_core.specs.declared.changes.Change.TheVariants as change
@@ -23,7 +22,7 @@ use Rattle.edit_core.specs.declared.faults.EditFault.{EditFault}
 use Rattle.edit_core.specs.declared.faults.EditFault.TheVariants as fault
 use Rattle.edit_core.specs.Batches.{Staged, IsStaged}
 use Rattle.edit_core.specs.EditFaults.{of_graph}
-use Rattle.edit_core.specs.Edits.{null_entity, edit_comma, edit_semi, most_versions, IsMade, IsPlaced, IsUnused, AreAfter, MayBegin, IsFirstChangeFault, IsFirstInUse, HasChangeFault, HasUse, HasGraphFault, HasTooManyLines, IsRefused, IsEdited}
+use Rattle.edit_core.specs.Edits.{null_entity, most_versions, IsMade, IsPlaced, IsUnused, AreAfter, MayBegin, IsFirstChangeFault, IsFirstInUse, HasGraphFault, IsRefused, IsEdited}
 use Rattle.edit_core.specs.Placing.{IsReferenceFault, in_use, broken}
 use Rattle.edit_core.proofs.Batches.{test_not}
 use Rattle.edit_core.proofs.Placing.{at_odd}
@@ -37,7 +36,7 @@ entity_same e d parts attrs =
     let second : ◌≡◌ {A = Entity} (record { row = d.row; attrs = e.attrs; tail = d.tail }) d = ap (λ (a : List ℕ). record { row = d.row; attrs = a; tail = d.tail }) attrs in
     first ∙ second
 
-some_same : (x y : Entity) → ◌≡◌ {A = Option Entity} (Some x) (Some y) → x ≡ y
+pub some_same : (x y : Entity) → ◌≡◌ {A = Option Entity} (Some x) (Some y) → x ≡ y
 some_same x y h = cc
 
 made_same : (rows : List Entity) (n : ℕ) (c : Change) (e d : Entity) → IsMade rows n c e → IsMade rows n c d → e ≡ d
@@ -58,7 +57,7 @@ placed_same rows x y (s ∷ batch) n h k (inl is) =
     subst (λ (m : ℕ). at_number x m ≡ at_number y m) is (at ∙ ap (λ (z : Entity). Some z) (made_same rows s.0 s.1 e d made made_too) ∙ sym at_too))
 placed_same rows x y (s ∷ batch) n h k (inr staged) = placed_same rows x y batch n h.1 k.1 staged
 
-staged_or_not : (batch : List Staged) (n : ℕ) → IsStaged batch n ⊎ (¬ IsStaged batch n)
+pub staged_or_not : (batch : List Staged) (n : ℕ) → IsStaged batch n ⊎ (¬ IsStaged batch n)
 staged_or_not [] n = inr (λ h. h)
 staged_or_not (s ∷ batch) n = go (s.0 == n) refl (staged_or_not batch n) where
   go : (b : Bool) → (s.0 == n) ≡ b → (IsStaged batch n ⊎ (¬ IsStaged batch n)) → IsStaged (s ∷ batch) n ⊎ (¬ IsStaged (s ∷ batch) n)
@@ -90,7 +89,7 @@ after_unique rows batch x y h k = same_list x y (h.size ∙ sym k.size) (λ i l.
 
 -- ---- the model after a batch
 
-with_rows : (m a : Model) → a.start ≡ m.start → a.comma ≡ m.comma → a.semi ≡ m.semi → a.global ≡ m.global
+pub with_rows : (m a : Model) → a.start ≡ m.start → a.comma ≡ m.comma → a.semi ≡ m.semi → a.global ≡ m.global
     → ◌≡◌ {A = Model} a (record { start = m.start; comma = m.comma; semi = m.semi; global = m.global; rows = a.rows })
 with_rows m a start comma semi global =
     let one : ◌≡◌ {A = Model} a (record { start = m.start; comma = a.comma; semi = a.semi; global = a.global; rows = a.rows }) = ap (λ x. record { start = x; comma = a.comma; semi = a.semi; global = a.global; rows = a.rows }) start in

@@ -1,9 +1,9 @@
 -- Rows that are made one change after the other.
-use Rattle.std.proofs.Common.{◌≡◌, ◌≢◌, ◌⊎◌, inl, inr, ℕ, zero, suc, ◌+◌, ◌-◌, ◌<◌, ◌≤◌, ◌/◌, ◌%◌, ◌==◌, max, Bool, true, false, List, [], ◌∷◌, ◌++◌, length, replicate, set, cond, Option, Some, None, slice_get, append_assoc, refl, sym, ap, subst, ◌∙◌, arith}
+use Rattle.std.proofs.Common.{◌≡◌, ◌≢◌, ℕ, zero, suc, ◌-◌, ◌<◌, ◌≤◌, ◌/◌, ◌%◌, ◌==◌, max, Bool, true, false, List, [], ◌∷◌, ◌++◌, length, replicate, set, cond, Option, Some, None, slice_get, append_assoc, refl, sym, ap, ◌∙◌, arith}
 use Rattle.std.specs.List.{AllByRecursion}
 use Rattle.solid_base.specs.declared.entities.Entity.{Entity}
 use Rattle.solid_base.specs.declared.solids.Row.TheVariants as row
-use Rattle.solid_base.specs.References.{at_number, row_at, row_or_null, HasNumber}
+use Rattle.solid_base.specs.References.{at_number, row_at, row_or_null}
 use Rattle.iges_parameters.specs.Accepted.{IsAcceptedEntity}
 use Rattle.iges_parameters.proofs.CountedLines.{holds_at}
 use Rattle.edit_core.specs.Edits.{null_entity, kept_or_null}

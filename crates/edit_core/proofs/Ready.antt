@@ -1,11 +1,10 @@
 -- Entities that an edit makes are accepted once their matrices are known to be those of the model.
-use Rattle.std.proofs.Common.{◌≡◌, ◌≤◌, ℕ, inl, inr, List, [], ◌∷◌, length, Ok, refl, subst, arith}
+use Rattle.std.proofs.Common.{◌≡◌, ℕ, inl, inr, List, [], ◌∷◌, length, Ok, refl, subst, arith}
 use Rattle.std.specs.List.{AllByRecursion}
 use Rattle.solid_base.specs.declared.entities.Entity.{Entity}
 use Rattle.solid_base.specs.declared.entities.RowText.{RowText}
 use Rattle.solid_base.specs.declared.entities.Token.{Token}
 use Rattle.solid_base.specs.declared.solids.Row.{Row}
-use Rattle.solid_base.specs.declared.solids.Row.TheVariants as row
 use Rattle.solid_base.specs.Ranges.{IsLawfulRow}
 use Rattle.solid_base.specs.Texts.{IsOneLine}
 use Rattle.solid_base.proofs.Texts.{blank_attributes_in_line}
@@ -16,7 +15,7 @@ use Rattle.iges_parameters.specs.Records.{record_in}
 use Rattle.iges_parameters.specs.Writing.{IsOfRecord}
 use Rattle.edit_core.specs.Edits.{null_entity, edit_comma, edit_semi}
 use Rattle.edit_core.specs.Placing.{IsReady}
-use Rattle.edit_core.proofs.ReadRows.{IsRowWith, may_have_tail, read_row_is}
+use Rattle.edit_core.proofs.ReadRows.{may_have_tail, read_row_is}
 
 pub accepted_ready : (e : Entity) → IsAcceptedEntity e → IsReady e
 accepted_ready e h = record { writable = (h.lawful, h.tail_spelt, h.tail_of_row); accepted = λ m. h; known = inr h.matrix }

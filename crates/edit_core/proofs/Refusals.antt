@@ -1,12 +1,11 @@
 -- The first faults of an edit, stage by stage.
-use Rattle.std.proofs.Common.{◌≡◌, ℕ, List, ◌<◌, refl, subst, sym}
+use Rattle.std.proofs.Common.{◌≡◌, ℕ, List, ◌<◌, subst, sym}
 use Rattle.solid_base.specs.declared.entities.Entity.{Entity}
 use Rattle.solid_base.specs.declared.entities.Model.{Model}
 use Rattle.solid_base.specs.Graph.{AreSound}
 use Rattle.iges_parameters.specs.Accepted.{lines_of, most_lines}
 use Rattle.entity_graph.specs.declared.graph_faults.GraphFault.{GraphFault}
 use Rattle.entity_graph.specs.declared.graph_faults.GraphFault.TheVariants as graph
-use Rattle.entity_graph.specs.FirstFaults.{IsFault}
 use Rattle.edit_core.specs.declared.changes.Change.{Change}
 use Rattle.edit_core.specs.declared.faults.EditFault.{EditFault}
 use Rattle.edit_core.specs.declared.faults.EditFault.TheVariants as fault

@@ -1,5 +1,5 @@
 -- The rows after a batch, one change after the other.
-use Rattle.std.proofs.Common.{◌≡◌, ◌≢◌, ◌⊎◌, inl, inr, ℕ, zero, suc, ◌+◌, ◌<◌, ◌≤◌, ◌/◌, ◌%◌, ◌==◌, max, List, [], ◌∷◌, ◌++◌, length, take, drop, Option, Some, None, slice_get, refl, sym, ap, subst, ◌∙◌, arith}
+use Rattle.std.proofs.Common.{◌≡◌, ◌≢◌, inl, inr, ℕ, zero, suc, ◌<◌, ◌≤◌, ◌/◌, ◌%◌, max, List, [], ◌∷◌, ◌++◌, length, take, drop, Option, Some, None, slice_get, refl, sym, ap, subst, ◌∙◌, arith}
 use Rattle.std.specs.List.{AllByRecursion}
 use Rattle.std.proofs.lemmas.Bool.{cases_lt}
 use Rattle.std.proofs.lemmas.Option.{slice_get_past, slice_get_within}
@@ -10,7 +10,7 @@ use Rattle.edit_core.specs.declared.changes.Change.{Change}
 use Rattle.edit_core.specs.declared.changes.Change.TheVariants as change
 use Rattle.edit_core.specs.declared.faults.EditFault.{EditFault}
 use Rattle.edit_core.specs.Batches.{Staged, IsStaged, AreApart}
-use Rattle.edit_core.specs.Edits.{null_entity, kept_or_null, Stands, IsMade, CanBeMade, IsPlaced, AreAfter, size_after, IsChangeFault, IsFirstChangeFault}
+use Rattle.edit_core.specs.Edits.{kept_or_null, Stands, IsMade, CanBeMade, IsPlaced, AreAfter, size_after, IsChangeFault, IsFirstChangeFault}
 use Rattle.edit_core.specs.Placing.{put}
 use Rattle.edit_core.proofs.Placing.{put_there, put_size, put_other, at_odd, has_odd, standing}
 
@@ -44,7 +44,7 @@ size_more : (size : ℕ) (front : List Staged) (s : Staged) → size_after size 
 size_more size [] s = refl
 size_more size (x ∷ front) s = let again = size_more size front s in omega (arith, again)
 
-size_least : (size : ℕ) (batch : List Staged) → size ≤ size_after size batch
+pub size_least : (size : ℕ) (batch : List Staged) → size ≤ size_after size batch
 size_least size [] = omega arith
 size_least size (x ∷ batch) = let again = size_least size batch in omega (arith, again)
 
@@ -141,7 +141,7 @@ stands_few rows n few stands =
     let within = slice_get_within rows (n / 2) old (sym (at_odd rows n (has_odd rows n old is)) ∙ is) in
     omega (arith, within, few)
 
-made_few : (rows : List Entity) (n : ℕ) (c : Change) (e : Entity) → length rows ≤ most_entities → IsMade rows n c e → suc (n / 2) ≤ most_entities
+pub made_few : (rows : List Entity) (n : ℕ) (c : Change) (e : Entity) → length rows ≤ most_entities → IsMade rows n c e → suc (n / 2) ≤ most_entities
 made_few rows n (change.Replace source) e few made = (let (stands, read, kept) = made in stands_few rows n few stands)
 made_few rows n (change.Add source) e few made = (let (free, may, read, blank) = made in let least = may.1 in omega (arith, least))
 made_few rows n change.Drop e few made = (let (stands, null) = made in stands_few rows n few stands)

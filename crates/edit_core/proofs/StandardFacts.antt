@@ -1,11 +1,9 @@
 -- Worked batches: places, sizes, what changes, and which of two faults is the first.
 use Rattle.std.proofs.Common.{◌≡◌, ◌≢◌, ℕ, List, [], ◌∷◌, refl, arith}
-use Rattle.solid_base.specs.declared.entities.Entity.{Entity}
 use Rattle.solid_base.specs.declared.entities.Model.{Model}
 use Rattle.solid_base.specs.declared.entities.RowText.{RowText}
 use Rattle.solid_base.specs.declared.solids.Row.TheVariants as row
 use Rattle.solid_base.specs.References.{row_at}
-use Rattle.edit_core.specs.declared.changes.Change.{Change}
 use Rattle.edit_core.specs.declared.changes.Change.TheVariants as change
 use Rattle.edit_core.specs.declared.faults.EditFault.TheVariants as fault
 use Rattle.edit_core.specs.Batches.{Staged, stage}

@@ -1,18 +1,22 @@
 -- Which rows name a number.
-use Rattle.std.proofs.Common.{◌≡◌, ◌⊎◌, inl, inr, ℕ, suc, ◌+◌, ◌*◌, ◌<◌, ◌≤◌, ◌/◌, ◌%◌, List, [], ◌∷◌, ◌++◌, length, take, drop, Some, slice_get, Contains, refl, sym, ap, subst, ◌∙◌, arith}
+use Rattle.std.proofs.Common.{◌≡◌, inl, inr, ℕ, suc, ◌+◌, ◌*◌, ◌<◌, ◌≤◌, ◌/◌, List, [], length, take, drop, Bool, true, false, not, IsTrue, Option, Some, None, MatchOption, slice_get, Contains, refl, sym, ap, subst, ◌∙◌, arith}
 use Rattle.std.specs.List.{AllByRecursion}
+use Rattle.std.specs.Option.{is_some}
 use Rattle.std.proofs.lemmas.Bool.{cases_lt}
 use Rattle.solid_base.specs.declared.entities.Entity.{Entity}
 use Rattle.solid_base.specs.declared.solids.Row.{Row}
 use Rattle.solid_base.specs.declared.solids.Row.TheVariants as row
-use Rattle.solid_base.specs.References.{row_at, row_or_null, references, references_of, Refers}
+use Rattle.solid_base.specs.References.{at_number, row_at, row_or_null, references, references_of, HasNumber, Refers}
+use Rattle.entity_graph.specs.Marks.{has_mark, with_marks}
+use Rattle.entity_graph.proofs.Marked.{marks_have, marks_stay}
 use Rattle.entity_graph.proofs.Numbers.{is_number}
+use Rattle.entity_graph.proofs.Stamping.{number_of_some}
 use Rattle.entity_graph.proofs.Steps.{take_step, split_step}
 use Rattle.edit_core.specs.declared.changes.Change.{Change}
 use Rattle.edit_core.specs.declared.changes.Change.TheVariants as change
 use Rattle.edit_core.specs.Batches.{Staged}
 use Rattle.edit_core.specs.Edits.{IsUnused, IsFirstInUse}
-use Rattle.edit_core.specs.Placing.{NoneNames, IsFirstNaming}
+use Rattle.edit_core.specs.Placing.{NoneNames, AreNamed, IsFirstNaming}
 use Rattle.edit_core.proofs.Placing.{at_odd}
 use Rattle.edit_core.proofs.RowsAfter.{all_and}
 
@@ -29,7 +33,7 @@ null_names_none rows e n null h =
     omega (arith, none.1)
 
 -- the rows before a place, and the row there
-abbrev NoneBefore : List Entity → ℕ → ℕ → Type 0
+abbrev pub NoneBefore : List Entity → ℕ → ℕ → Type 0
 NoneBefore rows n place = (e : ℕ) → e < 2 * place → ¬ Refers rows e n
 
 even_names_none : (rows : List Entity) (place n : ℕ) → ¬ Refers rows (2 * place) n
@@ -63,6 +67,36 @@ none_named rows place n past before e = elim (is_number rows e) [
   | inl h ↦ before e (let odd = h.0 in let within = h.1 in omega (arith, odd, within, past))
   | inr null ↦ null_names_none rows e n null
 ]
+
+-- ---- marks on named rows
+
+-- the same of the rows before a place
+abbrev pub AreNamedBefore : List Entity → List Bool → ℕ → Type 0
+AreNamedBefore rows marks place = (n : ℕ) → HasNumber rows n → has_mark marks n ≡ false → NoneBefore rows n place
+
+marked_no_more : (b : Bool) → b ≡ false → b ≡ true → ⊥
+marked_no_more b f t = cc
+
+unmarked : (b : Bool) → (b ≡ true → ⊥) → b ≡ false
+unmarked true none = absurd (none refl)
+unmarked false none = refl
+
+pub named_more : (rows : List Entity) (place : ℕ) (x : Entity) (marks : List Bool) (numbers : List ℕ) → slice_get rows place ≡ Some x → length marks ≡ length rows → numbers ≡ references x.row
+    → AreNamedBefore rows marks place → AreNamedBefore rows (with_marks marks numbers) (place + 1)
+named_more rows place x marks numbers is size all so_far n has none =
+    let within = has.1 in
+    let number : HasNumber marks n = (has.0, omega (arith, within, size)) in
+    let before = unmarked (has_mark marks n) (λ marked. marked_no_more (has_mark (with_marks marks numbers) n) none (marks_stay numbers marks n marked)) in
+    none_more rows place n x is (so_far n has before) (λ c. marked_no_more (has_mark (with_marks marks numbers) n) none (marks_have numbers marks n number (subst (λ (ns : List ℕ). Contains ns n) (sym all) c)))
+
+pub all_named : (rows : List Entity) (place : ℕ) (marks : List Bool) → length rows ≤ place → AreNamedBefore rows marks place → AreNamed rows marks
+all_named rows place marks past so_far n has none = none_named rows place n past (so_far n has none)
+
+pub unnamed : {X : Type 0} (rows : List Entity) (marks : List Bool) (n : ℕ) (view : X → Entity) (o : Option X) (mark : Bool) → AreNamed rows marks → MatchOption o (at_number rows n ≡ None) (λ x. at_number rows n ≡ Some (view x))
+    → is_some o ≡ true → mark ≡ has_mark marks n → IsTrue (not mark) → NoneNames rows n
+unnamed rows marks n view None mark named found some is none = absurd cc
+unnamed rows marks n view (Some x) true named found some is none = absurd cc
+unnamed rows marks n view (Some x) false named found some is none = named n (number_of_some rows n (view x) found) (sym is)
 
 -- ---- dropped numbers
 

@@ -1,19 +1,20 @@
 -- What the code's shortcuts need: rows that are made one change after the other.
-use Rattle.std.specs.Prelude.{◌≡◌, ◌⊎◌, ℕ, zero, suc, ◌-◌, ◌<◌, ◌≤◌, List, [], ◌∷◌}
-use Rattle.std.specs.Prelude.{◌++◌, length, replicate}
+use Rattle.std.specs.Prelude.{◌≡◌, ◌⊎◌, ℕ, zero, suc, ◌+◌, ◌-◌, ◌<◌, ◌≤◌, min, List, [], ◌∷◌}
+use Rattle.std.specs.Prelude.{◌++◌, length, replicate, Bool, false}
 use Rattle.solid_base.specs.declared.entities.Entity.{Entity}
 use Rattle.solid_base.specs.Ranges.{most_whole}
-use Rattle.iges_parameters.specs.Accepted.{IsAcceptedEntity, IsWritable}
-use Rattle.iges_parameters.specs.Writing.{IsOfRecord, matrix_of_row}
+use Rattle.iges_parameters.specs.Accepted.{IsAcceptedEntity, IsWritable, most_lines}
+use Rattle.iges_parameters.specs.Writing.{IsOfRecord, matrix_of_row, record_text, lines_for}
 use Rattle.iges_parameters.specs.declared.faults.RowFault.{RowFault}
 use Rattle.iges_parameters.specs.RecordFaults.{IsRecordFaultIn}
 use Rattle.solid_base.specs.declared.entities.RowText.{RowText}
 use Rattle.edit_core.specs.declared.faults.EditFault.{EditFault}
 use Rattle.edit_core.specs.declared.faults.EditFault.TheVariants as fault
 use Rattle.std.specs.List.{AllByRecursion}
-use Rattle.solid_base.specs.References.{Refers}
+use Rattle.solid_base.specs.References.{HasNumber, Refers}
 use Rattle.entity_graph.specs.declared.graph_faults.GraphFault.{GraphFault}
 use Rattle.entity_graph.specs.FirstFaults.{IsFault}
+use Rattle.entity_graph.specs.Marks.{has_mark}
 use Rattle.edit_core.specs.Batches.{Staged}
 use Rattle.edit_core.specs.EditFaults.{of_graph}
 use Rattle.edit_core.specs.Edits.{null_entity, edit_comma, edit_semi, IsUnused, IsFirstInUse}
@@ -28,6 +29,16 @@ put [] zero e = e ∷ []
 put [] (suc place) e = null_entity ∷ put [] place e
 put (x ∷ rows) zero e = e ∷ rows
 put (x ∷ rows) (suc place) e = x ∷ put rows place e
+
+-- how many lines the record of an entity takes; one more than a model may have where it takes more
+unfoldable pub counted : ℕ → ℕ → Entity → ℕ
+counted comma semi e =
+    min (lines_for (length (record_text comma semi e.row e.tail))) (most_lines + 1)
+
+-- the sum of the lines of entities, each counted so
+abbrev pub counted_of : ℕ → ℕ → List Entity → ℕ
+counted_of comma semi [] = 0
+counted_of comma semi (e ∷ es) = counted comma semi e + counted_of comma semi es
 
 -- an entity that is accepted once its matrix is known to be one of the model
 pub record IsReady (e : Entity) : Type 0 where
@@ -46,6 +57,11 @@ pub record HasBadRecord (source : RowText) (number : ℕ) (f : EditFault) : Type
 -- no row names a number
 abbrev pub NoneNames : List Entity → ℕ → Type 0
 NoneNames rows number = (e : ℕ) → ¬ Refers rows e number
+
+-- each row that isn't marked is named by none
+abbrev pub AreNamed : List Entity → List Bool → Type 0
+AreNamed rows marks =
+    (number : ℕ) → HasNumber rows number → has_mark marks number ≡ false → NoneNames rows number
 
 -- the least row that names a number
 pub record IsFirstNaming (rows : List Entity) (number by : ℕ) : Type 0 where

@@ -1,12 +1,13 @@
 -- Versions of a model, and the log of the edits that made them: solidd's own.
 use Rattle.std.specs.Prelude.{◌≡◌, ℕ, zero, suc, ◌+◌, ◌-◌, ◌*◌, ◌≤◌, List, [], ◌∷◌, ◌++◌}
 use Rattle.std.specs.Prelude.{map, length, Some, slice_get}
-use Rattle.solid_base.specs.References.{at_number}
+use Rattle.std.specs.List.{AllByRecursion}
+use Rattle.solid_base.specs.References.{at_number, row_at, Reaches}
 use Rattle.solid_base.specs.declared.entities.Entity.{Entity}
 use Rattle.solid_base.specs.declared.entities.Model.{Model}
-use Rattle.iges_parameters.specs.Accepted.{IsAccepted}
+use Rattle.iges_parameters.specs.Accepted.{IsAccepted, lines_of}
 use Rattle.entity_graph.specs.Stamps.{ReachesChanged, IsStamp}
-use Rattle.edit_core.specs.Batches.{Staged}
+use Rattle.edit_core.specs.Batches.{Staged, AreLawful}
 use Rattle.edit_core.specs.Edits.{IsEdited, most_versions}
 use Rattle.edit_core.specs.declared.table.Frame.{Frame}
 
@@ -44,6 +45,10 @@ pub record IsLawfulLog (opening : Model) (log : List LogEntry) : Type 0 where
   pub last : Model
   pub reached : IsVersion opening log (length log) last
 
+-- solidd's own: the batch of each entry of a log is one that a session can stage
+abbrev pub AreLawfulBatches : List LogEntry → Type 0
+AreLawfulBatches log = AllByRecursion (λ entry. AreLawful entry.batch) log
+
 -- solidd's own: the entry of a log that made the version after v, and the models of both
 pub record IsStep (opening : Model) (log : List LogEntry) (v : ℕ) (entry : LogEntry)
     (model after : Model) : Type 0 where
@@ -70,6 +75,13 @@ pub data IsStampIn (opening : Model) (log : List LogEntry) (e : ℕ) : ℕ → �
       → ¬ ReachesChanged after.rows (changed_by entry model after) e
       → IsStampIn opening log e v stamp → IsStampIn opening log e (suc v) stamp
 
+-- solidd's own: in two models the entity reaches the same numbers, and each has the same row in
+-- both
+pub record ReachesSame (rows others : List Entity) (e : ℕ) : Type 0 where
+  pub same : (k : ℕ) → Reaches rows e k → row_at rows k ≡ row_at others k
+  pub there : (k : ℕ) → Reaches rows e k → Reaches others e k
+  pub back : (k : ℕ) → Reaches others e k → Reaches rows e k
+
 -- ---- tables
 
 -- solidd's own: what contracts see of a table: the number of its version, its model, and the stamps
@@ -95,6 +107,14 @@ pub record IsNext (version : Version) (batch : List Staged) (after : Version) : 
       (changed_numbers batch (length version.model.rows) (length after.model.rows))
       after.number version.stamps e s
 
+-- solidd's own: a version is the last one of a log, with the stamps that its entities have there
+pub record IsVersionOf (opening : Model) (log : List LogEntry) (version : Version) : Type 0 where
+  pub number : version.number ≡ length log
+  pub newest : IsVersion opening log (length log) version.model
+  pub one_each : length version.stamps ≡ length version.model.rows
+  pub stamps : (e s : ℕ) → at_number version.stamps e ≡ Some s
+      → IsStampIn opening log e (length log) s
+
 -- the version with this number, frame, rows and stamps
 abbrev pub version_of : ℕ → Frame → List Entity → List ℕ → Version
 version_of number frame rows stamps = record {
@@ -109,10 +129,11 @@ version_of number frame rows stamps = record {
   stamps = stamps;
 }
 
--- what holds of each table: its model is one that is served, the graph is that of its rows, and
--- each row has a stamp
-pub record IsTable (version : Version) (graph : List Entity) : Type 0 where
+-- what holds of each table: its model is one that is served, the graph is that of its rows, the
+-- lines are those of its records, and each row has a stamp
+pub record IsTable (version : Version) (graph : List Entity) (lines : ℕ) : Type 0 where
   pub accepted : IsAccepted version.model
   pub graph_of_rows : graph ≡ version.model.rows
+  pub lines_of_rows : lines ≡ lines_of version.model.comma version.model.semi version.model.rows
   pub one_each : length version.stamps ≡ length version.model.rows
   pub few : version.number ≤ most_versions

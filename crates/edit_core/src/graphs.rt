@@ -1,25 +1,21 @@
-ghost use Rattle.std.specs.Prelude.{◌≡◌, ◌<◌, ◌≤◌, ◌↔◌, ℕ, length, Contains};
+ghost use Rattle.std.specs.Prelude.{◌≡◌, ◌≤◌, ◌↔◌, length, Contains};
 ghost use Rattle.std.specs.Prelude.{IsTrue, IfOk, IfErr, MatchOption};
 ghost use Rattle.std.specs.List.{AllByRecursion};
 ghost use Rattle.solid_base.specs.Graph.{AreSound};
 ghost use Rattle.solid_base.specs.References.{references};
-ghost use Rattle.iges_parameters.specs.Accepted.{IsWritable, lines_of, most_lines};
 ghost use Rattle.entity_graph.specs.GraphFaults as graphs;
 ghost use Rattle.entity_graph.specs.FirstFaults.{IsFault};
 ghost use Rattle.edit_core.specs.EditFaults.{IsOfText, IsOuter};
 ghost use Rattle.edit_core.specs.Edits.{IsUnused, IsFirstInUse};
-ghost use Rattle.edit_core.specs.Placing.{IsFirstNaming, NoneNames, IsReferenceFault};
+ghost use Rattle.edit_core.specs.Placing.{IsFirstNaming, NoneNames, AreNamed};
+ghost use Rattle.edit_core.specs.Placing.{IsReferenceFault};
 
 use crate::batch::Batch;
 use crate::changes::Change;
 use crate::faults::EditFault;
-use entity_graph::{Graph, GraphFault};
-use iges_parameters::line_count;
-use solid_base::{Row, Rows, reference_list};
+use entity_graph::{Graph, GraphFault, Marks};
+use solid_base::{List, Row, Rows, reference_list, with_references};
 use std::alloc::{AllocError, Global};
-
-/// How many lines the records of a model may take.
-const MOST_LINES: u64 = 300_000;
 
 /// Whether a row names a number.
 fn names(alloc: Global, row: &Row, number: u32) -> Result<bool, AllocError>
@@ -42,18 +38,44 @@ fn first_naming(alloc: Global, rows: &Rows, number: u32) -> Result<Option<u32>, 
     Ok(None)
 }
 
+/// Marks on the rows that some row names.
+fn named_rows(alloc: Global, rows: &Rows) -> Result<Marks, AllocError>
+    ensures { IfOk result (AreNamed rows.now) }
+{
+    let mut named = Marks::none(alloc, rows.len())?;
+    let mut references = List::new(alloc);
+    for place in 0..rows.len() {
+        references = with_references(references, &rows.get(place).row)?;
+        named.mark_references(references.as_slice());
+        references.truncate(0);
+    }
+    Ok(named)
+}
+
+/// Whether there is a row with a number, and no mark on it.
+fn is_unnamed(rows: &Rows, named: &Marks, number: u32) -> bool
+    requires { AreNamed rows.now named.now }
+    ensures { IsTrue result → NoneNames rows.now number }
+{
+    rows.entity(number).is_some() && !named.has(number)
+}
+
 /// The least number of a row that names a number for which there is a change, where it is dropped.
+/// The rows are looked through only where the number may be named.
 fn least_use(
     alloc: Global,
     rows: &Rows,
+    named: &Marks,
     number: u32,
     change: &Change,
 ) -> Result<Option<u32>, AllocError>
-    requires { length rows.now ≤ 100000 }
+    requires few { length rows.now ≤ 100000 }
+    requires named { AreNamed rows.now named.now }
     ensures { IfOk result (λ found. MatchOption found (IsUnused rows.now (number, change.now))
         (λ by. (change.now ≡ Change.Drop) × IsFirstNaming rows.now number by)) }
 {
     match change {
+        Change::Drop if is_unnamed(rows, named, number) => Ok(None),
         Change::Drop => first_naming(alloc, rows, number),
         _ => Ok(None),
     }
@@ -67,9 +89,10 @@ fn first_in_use(alloc: Global, rows: &Rows, batch: &Batch) -> Result<Option<(u32
         (AllByRecursion (IsUnused rows.now) batch.now)
         (λ p. IsFirstInUse batch.now rows.now p.0 p.1)) }
 {
+    let named = named_rows(alloc, rows)?;
     for at in 0..batch.len() {
         let (de, change) = batch.get(at);
-        if let Some(by) = least_use(alloc, rows, de, change)? {
+        if let Some(by) = least_use(alloc, rows, &named, de, change)? {
             return Ok(Some((de, by)));
         }
     }
@@ -105,18 +128,4 @@ pub fn graph_after(alloc: Global, rows: &Rows, batch: &Batch) -> Result<Graph, E
         Ok(graph) => Ok(graph),
         Err(fault) => Err(reference_fault(alloc, rows, batch, fault)),
     }
-}
-
-/// TooManyLines exactly where the records of entities take more than 300,000 lines. It takes no
-/// memory.
-pub fn check_lines(rows: &Rows) -> Result<(), EditFault>
-    requires { AllByRecursion IsWritable rows.now }
-    ensures few { IfOk result (λ _. (comma semi : ℕ) → lines_of comma semi rows.now ≤ most_lines) }
-    ensures many { IfErr result (λ fault. (fault ≡ EditFault.TooManyLines) ×
-        ((comma semi : ℕ) → most_lines < lines_of comma semi rows.now)) }
-{
-    if line_count(rows) > MOST_LINES {
-        return Err(EditFault::TooManyLines);
-    }
-    Ok(())
 }

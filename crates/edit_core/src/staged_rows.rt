@@ -1,22 +1,25 @@
-ghost use Rattle.std.specs.Prelude.{◌≡◌, ◌↔◌, ◌<◌, ◌^◌, [], ◌∷◌, ◌++◌, length, map, Some, IsTrue};
-ghost use Rattle.std.specs.Prelude.{IfOk, IfErr, OnOk};
+ghost use Rattle.std.specs.Prelude.{◌≡◌, ◌↔◌, ◌<◌, ◌≤◌, ◌^◌, [], ◌∷◌, ◌++◌, length, map, Some};
+ghost use Rattle.std.specs.Prelude.{IsTrue, IfOk, IfErr, OnOk};
 ghost use Rattle.std.specs.List.{AllByRecursion};
 ghost use Rattle.std.specs.Arc.{arc_value};
 ghost use Rattle.solid_base.specs.declared.entities.Entity.{Entity};
 ghost use Rattle.solid_base.specs.declared.solids.Row.TheVariants as row;
 ghost use Rattle.solid_base.specs.References.{at_number, row_at};
 ghost use Rattle.solid_base.specs.Texts.{IsOneLine};
-ghost use Rattle.iges_parameters.specs.Accepted.{IsAcceptedEntity};
+ghost use Rattle.iges_fields.specs.Delimiters.{AreDelimiters};
+ghost use Rattle.iges_parameters.specs.Accepted.{IsAcceptedEntity, most_entities};
 ghost use Rattle.edit_core.specs.declared.changes.Change.TheVariants as change;
 ghost use Rattle.edit_core.specs.Batches.{IsStageable, IsLawfulChange};
 ghost use Rattle.edit_core.specs.EditFaults.{IsOfText, IsOuter, of_record};
 ghost use Rattle.edit_core.specs.Edits.{null_entity, IsOfStaged, IsMade, IsChangeFault};
 ghost use Rattle.edit_core.specs.Edits.{AreAfter, IsFirstChangeFault};
-ghost use Rattle.edit_core.specs.Placing.{filled, put, IsReady, HasBadRecord};
+ghost use Rattle.edit_core.specs.Placing.{filled, put, counted_of, IsReady, HasBadRecord};
 
 use crate::batch::Batch;
 use crate::changes::Change;
 use crate::faults::EditFault;
+use crate::line_totals::lines_with;
+use crate::table::Frame;
 use iges_parameters::{RowFault, read_row};
 use solid_base::{Bytes, Entity, Row, RowText, Rows, Tokens, blank_attributes};
 use std::alloc::{AllocError, Global};
@@ -211,21 +214,36 @@ fn shared(alloc: Global, rows: &Rows) -> Result<Vec<Arc<Entity>>, AllocError>
     Ok(items)
 }
 
-/// The rows after a batch, or the fault of its first change that can't be made.
-pub fn rows_after(alloc: Global, rows: &Rows, batch: &Batch) -> Result<Rows, EditFault>
+/// The rows after a batch, and how many lines they take, each record counted up to 300,001, from
+/// how many the rows before take; or the fault of its first change that can't be made.
+pub fn rows_after(
+    alloc: Global,
+    frame: &Frame,
+    rows: &Rows,
+    lines: u64,
+    batch: &Batch,
+) -> Result<(Rows, u64), EditFault>
     requires accepted { AllByRecursion IsAcceptedEntity rows.now }
-    ensures after { IfOk result (AreAfter rows.now batch.now) }
-    ensures ready { IfOk result (AllByRecursion IsReady) }
+    requires few { length rows.now ≤ most_entities }
+    requires delimiters { AreDelimiters frame.now.comma frame.now.semi }
+    requires counted { lines ≡ counted_of frame.now.comma frame.now.semi rows.now }
+    ensures after { IfOk result (λ made. AreAfter rows.now batch.now made.0) }
+    ensures ready { IfOk result (λ made. AllByRecursion IsReady made.0) }
+    ensures counted { IfOk result (λ made.
+        made.1 ≡ counted_of frame.now.comma frame.now.semi made.0) }
     ensures first_fault { IfErr result (λ fault. IsOfText fault →
         IsFirstChangeFault rows.now batch.now fault) }
     ensures outer { IfErr result IsOuter }
 {
     batch.is_apart();
     let mut items = shared(alloc, rows)?;
+    let mut total = lines;
     for at in 0..batch.len() {
         let (number, change) = batch.get(at);
         let entity = changed_entity(alloc, rows, number, change)?;
-        put(alloc, &mut items, (number / 2) as usize, entity)?;
+        let place = (number / 2) as usize;
+        total = lines_with(alloc, frame, items.as_slice(), total, place, &entity);
+        put(alloc, &mut items, place, entity)?;
     }
-    Ok(Rows::from_vec(items))
+    Ok((Rows::from_vec(items), total))
 }

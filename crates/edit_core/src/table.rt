@@ -1,4 +1,4 @@
-ghost use Rattle.std.specs.Prelude.{◌≡◌, ◌<◌, ◌≤◌, ℕ, length, Some, IfOk, IfErr};
+ghost use Rattle.std.specs.Prelude.{◌≡◌, ◌≤◌, length, Some, IfOk, IfErr};
 ghost use Rattle.std.specs.List.{AllByRecursion};
 ghost use Rattle.std.specs.Arc.{arc_value};
 ghost use Rattle.solid_base.specs.References.{HasNumber, at_number};
@@ -14,9 +14,11 @@ use crate::batch::Batch;
 use crate::changed::changed_numbers;
 use crate::copies::{copied_lines, copied_tokens};
 use crate::faults::EditFault;
-use crate::graphs::{check_lines, graph_after};
+use crate::graphs::graph_after;
+use crate::line_totals::check_lines;
 use crate::staged_rows::rows_after;
 use entity_graph::{Graph, Stamps};
+use iges_parameters::line_count;
 use solid_base::{Lines, Model as SolidModel, Numbers, Rows, Tokens};
 use std::alloc::{AllocError, Global};
 use std::marker::Model;
@@ -40,6 +42,8 @@ pub struct Table {
     version: u64,
     frame: Arc<Frame>,
     rows: Rows,
+    /// How many lines the records of the rows take.
+    lines: u64,
     graph: Graph,
     stamps: Stamps,
 }
@@ -53,7 +57,7 @@ impl Model for Table {
     ghost view = { λ t. version_of t.version (arc_value t.frame) t.rows t.stamps };
 
     ghost invariant = { λ t. IsTable (version_of t.version (arc_value t.frame) t.rows t.stamps)
-        t.graph };
+        t.graph t.lines };
 }
 
 /// The same frame, shared.
@@ -113,6 +117,7 @@ impl Table {
         Ok(Table {
             version: 0,
             frame: Arc::new(alloc, frame)?,
+            lines: line_count(&model.rows),
             rows: model.rows,
             graph,
             stamps,
@@ -172,20 +177,37 @@ impl Table {
         let _ = &self.rows;
     }
 
-    /// The table of the next version, from the rows after a batch and their graph.
+    /// What the versions share.
+    fn frame(&self) -> &Frame
+        ensures comma { result.now.comma ≡ self.now.model.comma }
+        ensures semi { result.now.semi ≡ self.now.model.semi }
+    {
+        &self.frame
+    }
+
+    /// How many lines the records of the rows take.
+    fn lines(&self) -> u64
+        ensures { result ≡ lines_of self.now.model.comma self.now.model.semi self.now.model.rows }
+    {
+        self.lines
+    }
+
+    /// The table of the next version, from the rows after a batch, their graph and their lines.
     fn next(
         &self,
         alloc: Global,
         batch: &Batch,
         rows: Rows,
         graph: Graph,
+        lines: u64,
     ) -> Result<Table, AllocError>
         requires begins { MayBegin self.now.number batch.now }
         requires after { AreAfter self.now.model.rows batch.now rows }
         requires ready { AllByRecursion IsReady rows }
         requires sound { AreSound rows }
         requires graph { graph ≡ rows }
-        requires few { (comma semi : ℕ) → lines_of comma semi rows ≤ most_lines }
+        requires lines { lines ≡ lines_of self.now.model.comma self.now.model.semi rows }
+        requires few { lines ≤ most_lines }
         ensures next { IfOk result (IsNext self.now batch.now) }
     {
         let changed = changed_numbers(alloc, batch, self.rows.len(), rows.len())?;
@@ -194,6 +216,7 @@ impl Table {
             version: self.version + 1,
             frame: shared_frame(&self.frame)?,
             rows,
+            lines,
             graph,
             stamps,
         })
@@ -214,9 +237,9 @@ impl Table {
     {
         self.obeys();
         check_begin(self.version(), batch)?;
-        let rows = rows_after(alloc, self.rows(), batch)?;
+        let (rows, lines) = rows_after(alloc, self.frame(), self.rows(), self.lines(), batch)?;
         let graph = graph_after(alloc, &rows, batch)?;
-        check_lines(&rows)?;
-        Ok(self.next(alloc, batch, rows, graph)?)
+        check_lines(lines)?;
+        Ok(self.next(alloc, batch, rows, graph, lines)?)
     }
 }

@@ -1,4 +1,4 @@
-use Rattle.std.proofs.Common.{◌≡◌, ◌∙◌, ◌++◌, ◌+◌, ◌-◌, ◌*◌, ◌∷◌, [], ℕ, List, sym, ap, append_assoc, arith}
+use Rattle.std.proofs.Common.{◌∙◌, ◌++◌, ◌+◌, ◌-◌, ◌*◌, ◌∷◌, [], ℕ, List, sym, ap, append_assoc, arith}
 use Rattle.edit_core.specs.Versions.{numbers_from, changed_numbers}
 use Rattle.edit_core.proofs.NextVersions.{numbers_next, numbers_end}
 use Rattle.edit_core.proofs.changed.changed_numbers.Goals as goal

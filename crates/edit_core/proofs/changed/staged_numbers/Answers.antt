@@ -1,4 +1,4 @@
-use Rattle.std.proofs.Common.{◌≡◌, ◌∙◌, ◌++◌, ◌+◌, ◌∷◌, [], ℕ, List, map, take, refl, sym, ap}
+use Rattle.std.proofs.Common.{◌∙◌, ◌++◌, ◌+◌, ◌∷◌, [], ℕ, List, map, take, refl, sym, ap}
 use Rattle.std.proofs.lemmas.List.{map-append}
 use Rattle.entity_graph.proofs.Steps.{take_step}
 use Rattle.edit_core.specs.Batches.{Staged}

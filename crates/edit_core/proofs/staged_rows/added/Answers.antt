@@ -1,7 +1,7 @@
-use Rattle.std.proofs.Common.{◌≡◌, ◌≢◌, ◌%◌, ◌≤◌, refl, sym, subst, arith}
+use Rattle.std.proofs.Common.{refl, sym, subst, arith}
 use Rattle.solid_base.specs.Texts.{IsOneLine}
 use Rattle.solid_base.proofs.Texts.{blank_attributes_in_line}
-use Rattle.edit_core.specs.Edits.{taken, bad_number, IsNumberToAdd, most_number}
+use Rattle.edit_core.specs.Edits.{taken, bad_number, IsNumberToAdd}
 use Rattle.edit_core.proofs.ChangeFaults.{if_err, not_null, addition_blamed}
 use Rattle.edit_core.proofs.staged_rows.added.Goals.{then-number-eq0-via-then-number-eq0, then-number-eq0-via-else-number-eq0+then-number-gt-MOST_NUMBER}
 use Rattle.edit_core.proofs.staged_rows.added.Goals as goal

@@ -1,4 +1,4 @@
-use Rattle.std.proofs.Common.{◌≡◌, ◌++◌, ◌∙◌, List, [], ◌∷◌, map, add-one, sym, ap, arith}
+use Rattle.std.proofs.Common.{◌++◌, ◌∙◌, List, [], ◌∷◌, map, add-one, sym, ap, arith}
 use Rattle.std.specs.Arc.{arc_value}
 use Rattle.solid_base.specs.declared.entities.Entity.{Entity}
 use Rattle.edit_core.specs.Edits.{null_entity}

@@ -1,4 +1,4 @@
-use Rattle.std.proofs.Common.{◌≡◌, ◌++◌, ◌-◌, length, map, replicate}
+use Rattle.std.proofs.Common.{◌≡◌, ◌++◌, ◌-◌, map, replicate}
 use Rattle.std.specs.Arc.{arc_value}
 use Rattle.edit_core.specs.Edits.{null_entity}
 use Rattle.edit_core.proofs.staged_rows.fill.Given as goal

@@ -1,4 +1,4 @@
-use Rattle.std.proofs.Common.{◌≡◌, ◌+◌, ◌∙◌, List, set, map, sym, ap, add-one}
+use Rattle.std.proofs.Common.{◌≡◌, ◌+◌, ◌∙◌, List, set, map, ap, add-one}
 use Rattle.std.proofs.lemmas.List.{map-set}
 use Rattle.std.specs.Arc.{arc_value}
 use Rattle.solid_base.specs.declared.entities.Entity.{Entity}

@@ -1,6 +1,4 @@
-use Rattle.std.proofs.Common.{◌≡◌, ◌∙◌, ℕ, List, length, refl, sym, subst, ap}
-use Rattle.iges_parameters.specs.Accepted.{IsAcceptedEntity}
-use Rattle.iges_parameters.proofs.CountedLines.{holds_at}
+use Rattle.std.proofs.Common.{◌∙◌, ℕ, List, length, refl, sym, subst, ap}
 use Rattle.solid_base.specs.Texts.{IsOneLine}
 use Rattle.edit_core.specs.Edits.{nothing_to_replace}
 use Rattle.edit_core.proofs.ChangeFaults.{if_err, if_ok, not_null, replacement_blamed}

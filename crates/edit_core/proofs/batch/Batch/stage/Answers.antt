@@ -1,4 +1,4 @@
-use Rattle.std.proofs.Common.{◌≡◌, ◌∙◌, List, sym, subst, ap}
+use Rattle.std.proofs.Common.{◌∙◌, List, sym, subst, ap}
 use Rattle.edit_core.specs.Batches.{Staged, stage, AreLawful}
 use Rattle.edit_core.proofs.Batches.{entries_are, stage_lawful}
 use Rattle.edit_core.proofs.batch.Batch.stage.Goals as goal

@@ -1,7 +1,9 @@
-use Rattle.std.proofs.Common.{◌≡◌, ◌≤◌, length, sym, subst, refl, arith}
+use Rattle.std.proofs.Common.{◌∙◌, ◌<◌, ◌≤◌, sym, arith}
+use Rattle.iges_parameters.specs.Accepted.{lines_of, most_lines}
+use Rattle.edit_core.specs.Placing.{counted_of}
 use Rattle.std.proofs.lemmas.Result.{err_from_is_err_and}
 use Rattle.edit_core.proofs.RowsAfter.{few_after}
-use Rattle.edit_core.proofs.NextVersions.{all_writable}
+use Rattle.edit_core.proofs.LineTotals.{counted_all, counted_least}
 use Rattle.edit_core.proofs.Refusals.{change_refused, reference_refused, lines_refused}
 use Rattle.edit_core.proofs.table.Table.commit.Goals as goal
 
@@ -23,8 +25,19 @@ graph_after-requires c =
     let made = rw c.rows.ensures at c.in_ok-rows.ensures.after in
     few_after c.args.self.now.model.rows c.in_ok-rows.rows c.args.batch.now c.obeys.ensures.accepted.few_entities made
 
-pub check_lines-requires : goal.check_lines-requires
-check_lines-requires c = all_writable c.in_ok-rows.rows c.in_ok-rows.ensures.ready
+pub rows_after-requires-clause-counted : goal.rows_after-requires-clause-counted
+rows_after-requires-clause-counted c =
+    let model = c.args.self.now.model in
+    let least = counted_least model.comma model.semi model.rows in
+    let few : counted_of model.comma model.semi model.rows ≤ most_lines = omega (arith, least, c.obeys.ensures.accepted.few_lines) in
+    rw (c.rows.ensures, c.frame.ensures.comma, c.frame.ensures.semi, c.lines.ensures) (sym (counted_all model.comma model.semi model.rows few))
+
+pub next-requires-clause-lines : goal.next-requires-clause-lines
+next-requires-clause-lines c =
+    let model = c.args.self.now.model in
+    let counted = rw (c.frame.ensures.comma, c.frame.ensures.semi) at c.in_ok-rows.ensures.counted in
+    let few : counted_of model.comma model.semi c.in_ok-rows.rows ≤ most_lines = omega (arith, counted, c.in_ok-check_lines.ensures) in
+    counted ∙ counted_all model.comma model.semi c.in_ok-rows.rows few
 
 pub returns-in_err-graph-clause-first_fault : goal.returns-in_err-graph-clause-first_fault
 returns-in_err-graph-clause-first_fault c =
@@ -40,4 +53,7 @@ returns-in_err-check_lines-clause-first_fault c =
     let made = rw c.rows.ensures at c.in_ok-rows.ensures.after in
     let many = c.in_err-check_lines.ensures.many in
     let model = c.args.self.now.model in
-    rw (p.1, p.2) (λ t. lines_refused model c.args.self.now.number c.args.batch.now c.in_ok-rows.rows c.in_err-check_lines.field-0.0 may made c.in_ok-graph.ensures.sound many.0 (many.1 model.comma model.semi))
+    let counted = rw (c.frame.ensures.comma, c.frame.ensures.semi) at c.in_ok-rows.ensures.counted in
+    let least = counted_least model.comma model.semi c.in_ok-rows.rows in
+    let more : most_lines < lines_of model.comma model.semi c.in_ok-rows.rows = omega (arith, counted, least, many.1) in
+    rw (p.1, p.2) (λ t. lines_refused model c.args.self.now.number c.args.batch.now c.in_ok-rows.rows c.in_err-check_lines.field-0.0 may made c.in_ok-graph.ensures.sound many.0 more)
