@@ -6,3 +6,4 @@ pub mod StoredTest
 pub mod Steps
 pub mod Fronts
 mod StandardFacts
+pub mod SentMemos
