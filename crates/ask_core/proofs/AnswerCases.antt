@@ -11,7 +11,7 @@ use Rattle.solid_questions.specs.Bodies.{IsBody, class_words}
 use Rattle.solid_questions.specs.Questions.{entity_of}
 use Rattle.solid_questions.specs.QuestionCells.{cell_count}
 use Rattle.solid_questions.specs.Refusals.{refused_body}
-use Rattle.ask_core.specs.Answers.{IsAnswer, IsAnswerUnless, refusal_on, cell_verdicts}
+use Rattle.ask_core.specs.Answers.{IsAnswerOn, IsAnswerUnless, refusal_on, cell_verdicts}
 use Rattle.ask_core.proofs.Refused.{Few, unrefused_few}
 
 -- a body by the verdicts on cells that aren't too many
@@ -19,7 +19,7 @@ abbrev pub IsAnswered : List Entity → Question → List ℕ → Type 0
 IsAnswered rows q text = IsBody q (row_at rows (entity_of q)) (cell_verdicts rows q) text
     × Few (weight_of rows (entity_of q)) (cell_count q)
 
-pub answer_cases : (rows : List Entity) (q : Question) (text : List ℕ) → IsAnswer rows q text
+pub answer_cases : (rows : List Entity) (q : Question) (text : List ℕ) → IsAnswerOn rows q text
     → ((r : Refusal) × (text ≡ refused_body r)) ⊎ IsAnswered rows q text
 answer_cases rows q text is = go (refusal_on rows q is.0) refl is.2 where
   go : (o : Option Refusal) → refusal_on rows q is.0 ≡ o → IsAnswerUnless o rows q text
@@ -33,7 +33,7 @@ first [] = 0
 first (b ∷ bs) = b
 
 -- a text that doesn't begin with the letter R is no refusal
-pub not_refused : (rows : List Entity) (q : Question) (text : List ℕ) → IsAnswer rows q text → first text ≢ 82 → IsAnswered rows q text
+pub not_refused : (rows : List Entity) (q : Question) (text : List ℕ) → IsAnswerOn rows q text → first text ≢ 82 → IsAnswered rows q text
 not_refused rows q text is other = go (answer_cases rows q text is) where
   go : ((r : Refusal) × (text ≡ refused_body r)) ⊎ IsAnswered rows q text → IsAnswered rows q text
   go (inl r) = absurd (other (ap first r.1))

@@ -11,7 +11,7 @@ use Rattle.volume_bounds.specs.Counts.{class_is_inside, class_is_not_outside, in
 use Rattle.solid_questions.specs.declared.questions.Question.TheVariants as question
 use Rattle.solid_questions.specs.Bodies.{volume_words}
 use Rattle.solid_questions.specs.QuestionCells.{all_cells}
-use Rattle.ask_core.specs.Answers.{IsAnswer, cell_verdicts}
+use Rattle.ask_core.specs.Answers.{IsAnswerOn, cell_verdicts}
 use Rattle.ask_core.specs.Meanings.{AreCounted}
 use Rattle.ask_core.proofs.AnswerCases.{first, not_refused}
 use Rattle.ask_core.proofs.PlaceLaws.{classes_of_cells}
@@ -25,7 +25,7 @@ counted_class p (v ∷ vs) =
     ∙ sym (sum_by-cons (λ (v : Verdict). cond (p v.class) 1 0) v vs)
 
 pub volume_counted : (rows : List Entity) (e : ℕ) (cube : Cube) (depth : ℕ) (text rest : List ℕ) → AllByRecursion (λ e. IsLawfulRow e.row) rows
-    → IsAnswer rows (question.Volume e cube depth) text → text ≡ codes "VOLUME" ++ rest
+    → IsAnswerOn rows (question.Volume e cube depth) text → text ≡ codes "VOLUME" ++ rest
     → (lower : ℕ) × (upper : ℕ) × (text ≡ volume_words lower upper cube depth)
     × AreCounted rows e (all_cells (question.Volume e cube depth)) lower upper
 volume_counted rows e cube depth text rest lawful is words =

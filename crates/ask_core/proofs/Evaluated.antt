@@ -23,6 +23,10 @@ pub on_ok : {A E P : Type 0} (r : Result A E) → P → OnOk r P
 on_ok (Ok a) p = p
 on_ok (Err e) p = tt
 
+pub ok_then : {A E P Q : Type 0} (r : Result A E) → (P → Q) → OnOk r P → OnOk r Q
+ok_then (Ok a) f p = f p
+ok_then (Err e) f p = tt
+
 -- one verdict a cell
 pub one_each : (rows : List Entity) (q : Question) (count : Option ℕ) → cell_count q ≡ count → (verdicts : List Verdict) → verdicts ≡ cell_verdicts rows q
     → MatchOption count ⊥ (λ n. Unit {0}) → count ≡ Some (length verdicts)

@@ -14,14 +14,14 @@ use Rattle.solid_questions.specs.declared.questions.Question.TheVariants as ques
 use Rattle.solid_questions.specs.Bodies.{IsBounds, bounds_words}
 use Rattle.solid_questions.specs.Questions.{IsLawful}
 use Rattle.solid_questions.specs.QuestionCells.{grid_cells, most_question_depth}
-use Rattle.ask_core.specs.Answers.{IsAnswer, cell_verdicts}
+use Rattle.ask_core.specs.Answers.{IsAnswerOn, cell_verdicts}
 use Rattle.ask_core.specs.Meanings.{IsOutsideAt, IsAllOutside}
 use Rattle.ask_core.proofs.AnswerCases.{IsAnswered, first, not_refused}
 use Rattle.ask_core.proofs.GridLaws.{wider, outside_where}
 use Rattle.ask_core.proofs.Refused.{listed, within_limit}
 
 module _ (rows : List Entity) (e : ℕ) (cube : Cube) (depth : ℕ) (text : List ℕ) (sound : AllByRecursion (λ e. IsLawfulRow e.row) rows)
-    (lawful : IsLawful (question.Bounds e cube depth)) (is : IsAnswer rows (question.Bounds e cube depth) text) where
+    (lawful : IsLawful (question.Bounds e cube depth)) (is : IsAnswerOn rows (question.Bounds e cube depth) text) where
   -- what is outside, where the question is answered
   outside_all : IsAnswered rows (question.Bounds e cube depth) text → AllOutside (cell_verdicts rows (question.Bounds e cube depth)) → IsAllOutside rows e cube
   outside_all body all m at some held =

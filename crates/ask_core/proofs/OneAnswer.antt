@@ -16,9 +16,9 @@ use Rattle.solid_questions.specs.declared.questions.Question.{Question}
 use Rattle.solid_questions.specs.declared.questions.Question.TheVariants as question
 use Rattle.solid_questions.specs.declared.refusals.Refusal.{Refusal}
 use Rattle.solid_questions.specs.Bodies.{IsBody, IsBounds, bounds_words}
-use Rattle.solid_questions.specs.Questions.{IsServed, entity_of}
+use Rattle.solid_questions.specs.Questions.{IsOfRows, entity_of}
 use Rattle.solid_questions.specs.Refusals.{refused_body}
-use Rattle.ask_core.specs.Answers.{IsAnswer, IsAnswerUnless, Evaluates, evaluations_unless, cell_verdicts, refusal_on}
+use Rattle.ask_core.specs.Answers.{IsAnswerOn, IsAnswerUnless, Evaluates, evaluations_unless, cell_verdicts, refusal_on}
 
 bounds_once : (verdicts : List Verdict) (cube : Cube) (depth : ℕ) (a b : List ℕ) → IsBounds verdicts cube depth a → IsBounds verdicts cube depth b → a ≡ b
 bounds_once verdicts cube depth a b (inl f) (inl g) = f.2 ∙ ap bounds_words (one_extent verdicts cube f.0 g.0 (parts_of depth) f.1 g.1) ∙ sym g.2
@@ -36,7 +36,7 @@ body_once (question.Bounds e cube depth) r verdicts a b f g = bounds_once verdic
 body_once question.Export r verdicts a b f g = absurd f
 body_once question.Newest r verdicts a b f g = f ∙ sym g
 
-pub answer_once : (rows : List Entity) (q : Question) (a b : List ℕ) → IsAnswer rows q a → IsAnswer rows q b → a ≡ b
+pub answer_once : (rows : List Entity) (q : Question) (a b : List ℕ) → IsAnswerOn rows q a → IsAnswerOn rows q b → a ≡ b
 answer_once rows q a b f g = go (refusal_on rows q f.0) f.2 (subst (λ n. IsAnswerUnless (refusal_on rows q n) rows q b) (sym same) g.2) where
   same : f.0 ≡ g.0
   same = first_opaque_once rows (entity_of q) f.0 g.0 f.1 g.1
@@ -85,7 +85,7 @@ bounds_some verdicts cube depth = go (found verdicts (parts_of depth) (length ve
       let extent = cube_of_block cube (parts_of depth) b in
       (bounds_words extent, inl (extent, extent_of verdicts cube (parts_of depth) (length verdicts) b (omega arith) h, refl))
 
-body_some : (q : Question) (r : Row) (verdicts : List Verdict) → IsServed q → (text : List ℕ) × IsBody q r verdicts text
+body_some : (q : Question) (r : Row) (verdicts : List Verdict) → IsOfRows q → (text : List ℕ) × IsBody q r verdicts text
 body_some (question.Point e at) r verdicts served = (_, refl)
 body_some (question.Cell e cube) r verdicts served = (_, refl)
 body_some (question.Items e) r verdicts served = (_, refl)
@@ -95,11 +95,11 @@ body_some (question.Bounds e cube depth) r verdicts served = bounds_some verdict
 body_some question.Export r verdicts served = absurd served
 body_some question.Newest r verdicts served = (_, refl)
 
-pub answer_some : (rows : List Entity) (q : Question) → IsServed q → (text : List ℕ) × IsAnswer rows q text
+pub answer_some : (rows : List Entity) (q : Question) → IsOfRows q → (text : List ℕ) × IsAnswerOn rows q text
 answer_some rows q served = go (first_opaque_some rows (entity_of q)) where
   unless : (o : Option Refusal) → (text : List ℕ) × IsAnswerUnless o rows q text
   unless None = body_some q (row_at rows (entity_of q)) (cell_verdicts rows q) served
   unless (Some r) = (refused_body r, refl)
 
-  go : (n : ℕ) × IsFirstOpaque rows (entity_of q) n → (text : List ℕ) × IsAnswer rows q text
+  go : (n : ℕ) × IsFirstOpaque rows (entity_of q) n → (text : List ℕ) × IsAnswerOn rows q text
   go (n, first) = (let is = unless (refusal_on rows q n) in (is.0, (n, first, is.1)))

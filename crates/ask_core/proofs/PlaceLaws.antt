@@ -14,7 +14,7 @@ use Rattle.csg_primitives.specs.Sharpness.{point_cube}
 use Rattle.solid_eval.proofs.Causes.{open_use}
 use Rattle.solid_eval.proofs.Settled.{inside-settled, outside-settled, inside-exact, outside-exact, point-held}
 use Rattle.solid_questions.specs.declared.questions.Question.TheVariants as question
-use Rattle.ask_core.specs.Answers.{IsAnswer, cell_verdict}
+use Rattle.ask_core.specs.Answers.{IsAnswerOn, cell_verdict}
 use Rattle.ask_core.specs.Meanings.{IsInsideAt, IsOutsideAt, IsAllInside, IsAllOutside, IsOpenAt, IsClassOf, AreClassesOf}
 use Rattle.ask_core.proofs.AnswerCases.{first, not_refused, says_inside, says_outside, says_open}
 
@@ -46,28 +46,28 @@ classes_of_cells rows e (cube ∷ cells) lawful =
 
 -- ---- answers on one box
 module _ (rows : List Entity) (e : ℕ) (lawful : AllByRecursion (λ e. IsLawfulRow e.row) rows) where
-  pub point_inside : (at : Vec3) (text : List ℕ) → IsAnswer rows (question.Point e at) text → text ≡ codes "INSIDE" → IsInsideAt rows e 1 at
+  pub point_inside : (at : Vec3) (text : List ℕ) → IsAnswerOn rows (question.Point e at) text → text ≡ codes "INSIDE" → IsInsideAt rows e 1 at
   point_inside at text is words =
       let letter : first text ≡ 73 = ap first words in
       let body = not_refused rows (question.Point e at) text is (omega (arith, letter)) in
       let v = cell_verdict rows e (point_cube at) in
       all_inside rows e (point_cube at) lawful (says_inside v.leaf v.class (sym body.0 ∙ words)) 1 at (omega arith) (point-held at)
 
-  pub point_outside : (at : Vec3) (text : List ℕ) → IsAnswer rows (question.Point e at) text → text ≡ codes "OUTSIDE" → IsOutsideAt rows e 1 at
+  pub point_outside : (at : Vec3) (text : List ℕ) → IsAnswerOn rows (question.Point e at) text → text ≡ codes "OUTSIDE" → IsOutsideAt rows e 1 at
   point_outside at text is words =
       let letter : first text ≡ 79 = ap first words in
       let body = not_refused rows (question.Point e at) text is (omega (arith, letter)) in
       let v = cell_verdict rows e (point_cube at) in
       all_outside rows e (point_cube at) lawful (says_outside v.leaf v.class (sym body.0 ∙ words)) 1 at (omega arith) (point-held at)
 
-  pub cell_inside : (cube : Cube) (text : List ℕ) → IsAnswer rows (question.Cell e cube) text → text ≡ codes "INSIDE" → IsAllInside rows e cube
+  pub cell_inside : (cube : Cube) (text : List ℕ) → IsAnswerOn rows (question.Cell e cube) text → text ≡ codes "INSIDE" → IsAllInside rows e cube
   cell_inside cube text is words =
       let letter : first text ≡ 73 = ap first words in
       let body = not_refused rows (question.Cell e cube) text is (omega (arith, letter)) in
       let v = cell_verdict rows e cube in
       all_inside rows e cube lawful (says_inside v.leaf v.class (sym body.0 ∙ words))
 
-  pub cell_outside : (cube : Cube) (text : List ℕ) → IsAnswer rows (question.Cell e cube) text → text ≡ codes "OUTSIDE" → IsAllOutside rows e cube
+  pub cell_outside : (cube : Cube) (text : List ℕ) → IsAnswerOn rows (question.Cell e cube) text → text ≡ codes "OUTSIDE" → IsAllOutside rows e cube
   cell_outside cube text is words =
       let letter : first text ≡ 79 = ap first words in
       let body = not_refused rows (question.Cell e cube) text is (omega (arith, letter)) in
@@ -81,7 +81,7 @@ pub open_box : (rows : List Entity) (e : ℕ) (cube : Cube) (rest : List ℕ)
 open_box rows e cube rest is =
     ((cell_verdict rows e cube).leaf, is.1, open_use rows e (spans_of (box_of cube)) is.0)
 
-pub point_open : (rows : List Entity) (e : ℕ) (at : Vec3) (text rest : List ℕ) → IsAnswer rows (question.Point e at) text → text ≡ codes "UNDECIDED " ++ rest
+pub point_open : (rows : List Entity) (e : ℕ) (at : Vec3) (text rest : List ℕ) → IsAnswerOn rows (question.Point e at) text → text ≡ codes "UNDECIDED " ++ rest
     → (d : ℕ) × (rest ≡ decimal d) × IsOpenAt rows e (point_cube at) d
 point_open rows e at text rest is words =
     let letter : first text ≡ 85 = ap first words in
@@ -89,7 +89,7 @@ point_open rows e at text rest is words =
     let v = cell_verdict rows e (point_cube at) in
     open_box rows e (point_cube at) rest (says_open v.leaf v.class rest (sym body.0 ∙ words))
 
-pub cell_open : (rows : List Entity) (e : ℕ) (cube : Cube) (text rest : List ℕ) → IsAnswer rows (question.Cell e cube) text → text ≡ codes "UNDECIDED " ++ rest
+pub cell_open : (rows : List Entity) (e : ℕ) (cube : Cube) (text rest : List ℕ) → IsAnswerOn rows (question.Cell e cube) text → text ≡ codes "UNDECIDED " ++ rest
     → (d : ℕ) × (rest ≡ decimal d) × IsOpenAt rows e cube d
 cell_open rows e cube text rest is words =
     let letter : first text ≡ 85 = ap first words in

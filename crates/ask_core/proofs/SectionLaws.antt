@@ -19,7 +19,7 @@ use Rattle.solid_questions.specs.declared.questions.Question.TheVariants as ques
 use Rattle.solid_questions.specs.Bodies.{class_sign, section_line, section_lines, section_head, section_words, count_words}
 use Rattle.solid_questions.specs.Questions.{IsLawful}
 use Rattle.solid_questions.specs.QuestionCells.{cell, section_cell, most_section_cells}
-use Rattle.ask_core.specs.Answers.{IsAnswer, cell_verdict}
+use Rattle.ask_core.specs.Answers.{IsAnswerOn, cell_verdict}
 use Rattle.ask_core.specs.Meanings.{byte_at, IsAllInside, IsAllOutside}
 use Rattle.ask_core.proofs.AnswerCases.{first, not_refused}
 use Rattle.ask_core.proofs.CellCounts.{cells_listed}
@@ -144,7 +144,7 @@ sign_of_outside class.Inside is = absurd (omega (arith, is))
 
 module _ (rows : List Entity) (e : ℕ) (z x0 y0 step : ℤ) (nx ny : ℕ) (text rest : List ℕ)
     (lawful : IsLawful (question.Section e z x0 y0 step nx ny))
-    (is : IsAnswer rows (question.Section e z x0 y0 step nx ny) text) (words : text ≡ codes "SECTION" ++ rest)
+    (is : IsAnswerOn rows (question.Section e z x0 y0 step nx ny) text) (words : text ≡ codes "SECTION" ++ rest)
     (i j : ℕ) (left : i < nx) (few : j < ny) where
   q : Question
   q = question.Section e z x0 y0 step nx ny

@@ -1,7 +1,9 @@
 -- The answer to a question about a model, evaluated afresh.
-use Rattle.std.specs.Prelude.{◌≡◌, ℕ, ◌*◌, List, length, map, Option, None, Some}
+use Rattle.std.specs.Prelude.{◌≡◌, ℕ, ◌*◌, List, ◌++◌, codes, decimal, length, map, Option, None}
+use Rattle.std.specs.Prelude.{Some}
 use Rattle.solid_base.specs.declared.classes.Verdict.{Verdict}
 use Rattle.solid_base.specs.declared.entities.Entity.{Entity}
+use Rattle.solid_base.specs.declared.entities.Model.{Model}
 use Rattle.solid_base.specs.declared.geometry.Cube.{Cube}
 use Rattle.solid_base.specs.References.{row_at}
 use Rattle.solid_base.specs.Graph.{weight_of}
@@ -11,7 +13,9 @@ use Rattle.entity_graph.specs.Opaque.{IsFirstOpaque}
 use Rattle.solid_eval.specs.Solids.{solid_of}
 use Rattle.solid_eval.specs.Uses.{leaf_count}
 use Rattle.solid_eval.specs.Written.{written}
+use Rattle.iges_write.specs.CanonicalFile.{canonical_lines, canonical_text}
 use Rattle.solid_questions.specs.declared.questions.Question.{Question}
+use Rattle.solid_questions.specs.declared.questions.Question.TheVariants as question
 use Rattle.solid_questions.specs.declared.refusals.Refusal.{Refusal}
 use Rattle.solid_questions.specs.Questions.{entity_of}
 use Rattle.solid_questions.specs.QuestionCells.{all_cells}
@@ -38,11 +42,32 @@ abbrev pub IsAnswerUnless : Option Refusal → List Entity → Question → List
 IsAnswerUnless (Some refusal) rows q text = text ≡ refused_body refusal
 IsAnswerUnless None rows q text = IsBody q (row_at rows (entity_of q)) (cell_verdicts rows q) text
 
--- solidd's own: this is the answer to a question about a model with these rows
-abbrev pub IsAnswer : List Entity → Question → List ℕ → Type 0
-IsAnswer rows q text =
+-- solidd's own: this is the answer to a question that is answered from the rows of a model
+abbrev pub IsAnswerOn : List Entity → Question → List ℕ → Type 0
+IsAnswerOn rows q text =
     (unread : ℕ) × IsFirstOpaque rows (entity_of q) unread
     × IsAnswerUnless (refusal_on rows q unread) rows q text
+
+-- solidd's own: this is the text of an export. With the line feed that ends a reply, it is a line
+-- that says how many lines the model's file has, and then that file
+abbrev pub IsExport : Model → List ℕ → Type 0
+IsExport model text =
+    text ++ codes "\n" ≡ (codes "EXPORT " ++ decimal (length (canonical_lines model)))
+    ++ (codes "\n" ++ canonical_text model)
+
+-- solidd's own: this is the answer to a question about a model
+abbrev pub IsAnswer : Model → Question → List ℕ → Type 0
+IsAnswer model (question.Point e at) text = IsAnswerOn model.rows (question.Point e at) text
+IsAnswer model (question.Cell e cube) text = IsAnswerOn model.rows (question.Cell e cube) text
+IsAnswer model (question.Items e) text = IsAnswerOn model.rows (question.Items e) text
+IsAnswer model (question.Section e z x0 y0 step nx ny) text =
+    IsAnswerOn model.rows (question.Section e z x0 y0 step nx ny) text
+IsAnswer model (question.Volume e cube depth) text =
+    IsAnswerOn model.rows (question.Volume e cube depth) text
+IsAnswer model (question.Bounds e cube depth) text =
+    IsAnswerOn model.rows (question.Bounds e cube depth) text
+IsAnswer model question.Export text = IsExport model text
+IsAnswer model question.Newest text = IsAnswerOn model.rows question.Newest text
 
 -- solidd's own: how many evaluations of primitives the cells of a question take: each as many as
 -- the entity's solid has uses of primitives

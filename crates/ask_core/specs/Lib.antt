@@ -1,2 +1,11 @@
 pub mod Answers
 pub mod Meanings
+pub mod Replies
+pub mod Books
+pub mod Runs
+pub mod Rounds
+pub mod RunStates
+pub mod Begins
+pub mod Machine
+pub mod Places
+pub mod Thrift

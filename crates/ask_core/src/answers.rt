@@ -1,4 +1,4 @@
-ghost use Rattle.std.specs.Prelude.{◌≡◌, ℕ, ◌*◌, ◌++◌, List, length, OnOk, MatchOption};
+ghost use Rattle.std.specs.Prelude.{◌≡◌, ℕ, ◌*◌, ◌++◌, List, [], ◌∷◌, length, OnOk, MatchOption};
 ghost use Rattle.std.specs.List.{AllByRecursion};
 ghost use mathlib.Core.List.{IsPrefix};
 ghost use Rattle.solid_base.specs.Graph.{weight_of};
@@ -9,20 +9,23 @@ ghost use Rattle.entity_graph.specs.Opaque.{IsFirstOpaque};
 ghost use Rattle.solid_eval.specs.Solids.{solid_of};
 ghost use Rattle.solid_eval.specs.Uses.{leaf_count};
 ghost use Rattle.solid_questions.specs.Bodies.{IsBody};
-ghost use Rattle.solid_questions.specs.Questions.{IsLawful, IsServed, entity_of};
+ghost use Rattle.solid_questions.specs.Questions.{IsLawful, IsOfRows, entity_of};
 ghost use Rattle.solid_questions.specs.QuestionCells.{all_cells, cell_count};
 ghost use Rattle.solid_questions.specs.Refusals.{most_evaluations};
-ghost use Rattle.ask_core.specs.Answers.{IsAnswer, Evaluates, cell_evaluations};
+ghost use Rattle.ask_core.specs.Answers.{IsAnswer, IsAnswerOn, IsExport, Evaluates};
+ghost use Rattle.ask_core.specs.Answers.{cell_evaluations};
 ghost use Rattle.ask_core.specs.Answers.{cell_verdicts, refusal_on};
 
 use crate::cells::{cell_verdicts, entity_of};
+use edit_core::Table;
 use entity_graph::Graph;
-use solid_base::{Bytes, Ledger, Rows};
+use iges_write::canonical_file;
+use solid_base::{Bytes, Ledger, Rows, push_decimal};
 use solid_questions::{Question, Refusal, push_body, refusal_of};
 use std::alloc::{AllocError, Global};
 
 /// Why a question about a model is refused, if it is.
-fn refusal(rows: &Rows, graph: &Graph, question: &Question) -> Option<Refusal>
+pub(crate) fn refusal(rows: &Rows, graph: &Graph, question: &Question) -> Option<Refusal>
     requires graph { graph.now ≡ rows.now }
     ensures { (unread : ℕ) × IsFirstOpaque rows.now (entity_of question.now) unread
         × (result ≡ refusal_on rows.now question.now unread) }
@@ -47,7 +50,7 @@ fn push_evaluated<L: Ledger>(
     requires rows { AllByRecursion (λ e. IsLawfulRow e.row) rows.now }
     requires graph { graph.now ≡ rows.now }
     requires lawful { IsLawful question.now }
-    requires served { IsServed question.now }
+    requires of_rows { IsOfRows question.now }
     requires few { MatchOption (cell_count question.now) ⊥ (λ _. Unit {0}) }
     ensures body { OnOk result ((body : List ℕ) × IsBody question.now
         (row_at rows.now (entity_of question.now)) (cell_verdicts rows.now question.now) body
@@ -68,15 +71,8 @@ fn push_evaluated<L: Ledger>(
     )
 }
 
-/// Adds the answer to a question about a model to a text: the words of the refusal, or the body by
-/// the verdicts on the cells, each evaluated afresh.
-///
-/// The question's numbers are in their ranges, and it is any but an export. The rows have their
-/// parameters in their ranges, and the graph is theirs. Each primitive is evaluated and counted on
-/// the ledger once a cell for each time that it stands in the entity's solid; never more than 2^22
-/// are for one question, and none for one that is refused. AllocError when out of memory; then what
-/// stood in the text still stands in front of it, and the evaluations may have been made.
-pub fn push_answer<L: Ledger>(
+/// Adds the answer to a question that is answered from the rows of a model.
+pub(crate) fn push_answer_on<L: Ledger>(
     alloc: Global,
     out: &mut Bytes,
     rows: &Rows,
@@ -87,8 +83,8 @@ pub fn push_answer<L: Ledger>(
     requires rows { AllByRecursion (λ e. IsLawfulRow e.row) rows.now }
     requires graph { graph.now ≡ rows.now }
     requires lawful { IsLawful question.now }
-    requires served { IsServed question.now }
-    ensures answer { OnOk result ((body : List ℕ) × IsAnswer rows.now question.now body
+    requires of_rows { IsOfRows question.now }
+    ensures answer { OnOk result ((body : List ℕ) × IsAnswerOn rows.now question.now body
         × (out.new ≡ out.old ++ body)) }
     ensures front { IsPrefix out.old out.new }
     ensures counted { OnOk result ((count : ℕ) × Evaluates rows.now question.now count
@@ -102,5 +98,64 @@ pub fn push_answer<L: Ledger>(
     match refusal(rows, graph, question) {
         Some(refusal) => refusal.push(out),
         None => push_evaluated(alloc, out, rows, graph, question, leaves),
+    }
+}
+
+/// A text without its last byte, where it has one.
+fn without_last(text: &[u8]) -> &[u8]
+    ensures { (front : List ℕ) (byte : ℕ) → text.now ≡ front ++ byte ∷ [] → result.now ≡ front }
+{
+    match text {
+        [] => text,
+        [front @ .., _] => front,
+    }
+}
+
+/// Adds the text of an export: how many lines the file of the model has, and these, of which the
+/// last one isn't ended.
+fn push_export(alloc: Global, out: &mut Bytes, table: &Table) -> Result<(), AllocError>
+    ensures export { OnOk result ((body : List ℕ) × IsExport table.now.model body
+        × (out.new ≡ out.old ++ body)) }
+    ensures front { IsPrefix out.old out.new }
+{
+    table.obeys();
+    let file = canonical_file(alloc, &table.model(alloc)?)?;
+    out.extend_from_slice(b"EXPORT ")?;
+    push_decimal(out, file.lines)?;
+    out.extend_from_slice(b"\n")?;
+    out.extend_from_slice(without_last(file.text.as_slice()))
+}
+
+/// Adds the answer to a question about a version of a model to a text: the words of the refusal, or
+/// the body by the verdicts on the cells, each evaluated afresh; for an export the model's file.
+///
+/// The question's numbers are in their ranges. Each primitive is evaluated and counted on the
+/// ledger once a cell for each time that it stands in the entity's solid; never more than 2^22 are
+/// for one question, and none for one that is refused. AllocError when out of memory; then what
+/// stood in the text still stands in front of it, and the evaluations may have been made.
+pub fn push_answer<L: Ledger>(
+    alloc: Global,
+    out: &mut Bytes,
+    table: &Table,
+    question: &Question,
+    leaves: &mut L,
+) -> Result<(), AllocError>
+    requires lawful { IsLawful question.now }
+    ensures answer { OnOk result ((body : List ℕ) × IsAnswer table.now.model question.now body
+        × (out.new ≡ out.old ++ body)) }
+    ensures front { IsPrefix out.old out.new }
+    ensures counted { OnOk result ((count : ℕ) × Evaluates table.now.model.rows question.now count
+        × (L.count leaves.new ≡ counted (L.count leaves.old) count)) }
+    ensures most { (count : ℕ) × Evaluates table.now.model.rows question.now count
+        × RisesUpTo (L.count leaves.old) (L.count leaves.new) count }
+    ensures weight { RisesUpTo (L.count leaves.old) (L.count leaves.new)
+        (length (all_cells question.now)
+        * weight_of table.now.model.rows (entity_of question.now)) }
+    ensures light { RisesUpTo (L.count leaves.old) (L.count leaves.new) most_evaluations }
+{
+    table.obeys();
+    match question {
+        Question::Export => push_export(alloc, out, table),
+        _ => push_answer_on(alloc, out, table.rows(), table.graph(), question, leaves),
     }
 }

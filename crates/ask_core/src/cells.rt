@@ -1,5 +1,5 @@
 ghost use Rattle.std.specs.Prelude.{◌≡◌, ℕ, ◌<◌, ◌≤◌, ◌+◌, ◌++◌, [], ◌∷◌, map};
-ghost use Rattle.std.specs.Prelude.{IfOk, OnOk, OnErr, MatchOption};
+ghost use Rattle.std.specs.Prelude.{IfOk, OnOk, OnErr, MatchOption, Some};
 ghost use Rattle.std.specs.List.{AllByRecursion, range_with_len};
 ghost use Rattle.solid_base.specs.Graph.{weight_of};
 ghost use Rattle.solid_base.specs.Ledgers.{counted};
@@ -33,9 +33,10 @@ pub(crate) fn entity_of(question: &Question) -> u32
 }
 
 /// How many cells a question asks about that aren't too many, else none.
-fn count(question: &Question) -> u64
+pub(crate) fn count(question: &Question) -> u64
     ensures cells { all_cells question.now ≡ map (cell question.now) (range_with_len 0 result) }
     ensures few { result ≤ 65536 }
+    ensures counted { (n : ℕ) → cell_count question.now ≡ Some n → result ≡ n }
     ensures inside { (place : ℕ) → place < result →
         MatchOption (cell_count question.now) ⊥ (λ count. place < count) }
 {

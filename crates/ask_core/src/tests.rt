@@ -3,7 +3,7 @@ ghost use Rattle.std.specs.Prelude.{IfOk};
 ghost use Rattle.std.specs.List.{AllByRecursion};
 ghost use Rattle.solid_base.specs.Ranges.{IsLawfulRow};
 
-use crate::push_answer;
+use crate::answers::push_answer_on;
 use entity_graph::{Graph, GraphFault};
 use fixed_enclosure::Box3;
 use solid_base::{Bytes, Class, Cube, Entity, List, Prim, Row, Rows, Tally, U, Vec3};
@@ -93,7 +93,7 @@ fn questions_are_answered(rt: HostRuntime) -> Result<(), GraphFault> {
         let mut out = Bytes::new(alloc);
         let mut leaves = Tally { count: 0 };
         assert!(rt; is_lawful(&question));
-        push_answer(alloc, &mut out, &rows, &graph, &question, &mut leaves)?;
+        push_answer_on(alloc, &mut out, &rows, &graph, &question, &mut leaves)?;
         assert_eq!(rt; out.as_slice(), want);
         assert_eq!(rt; leaves.count, count);
     }
@@ -129,7 +129,7 @@ fn a_volume_counts_each_cell_afresh(rt: HostRuntime) -> Result<(), GraphFault> {
     assert!(rt; is_lawful(&question));
     let want = render_counts(alloc, lower, upper, &AROUND, 3)?;
     let mut out = Bytes::new(alloc);
-    push_answer(alloc, &mut out, &rows, &graph, &question, &mut leaves)?;
+    push_answer_on(alloc, &mut out, &rows, &graph, &question, &mut leaves)?;
     assert_eq!(rt; out.as_slice(), want.as_slice());
     assert_eq!(rt; leaves.count, 1024);
     Ok(())

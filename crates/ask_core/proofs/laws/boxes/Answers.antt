@@ -3,7 +3,7 @@ use Rattle.ask_core.proofs.laws.boxes.Goals as goal
 
 pub returns : goal.returns
 returns c = record {
-  inside = λ rows e cube text lawful. cell_inside rows e lawful cube text;
-  outside = λ rows e cube text lawful. cell_outside rows e lawful cube text;
-  undecided = cell_open;
+  inside = λ model e cube text lawful. cell_inside model.rows e lawful cube text;
+  outside = λ model e cube text lawful. cell_outside model.rows e lawful cube text;
+  undecided = λ model. cell_open model.rows;
 }

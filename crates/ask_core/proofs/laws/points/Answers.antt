@@ -3,7 +3,7 @@ use Rattle.ask_core.proofs.laws.points.Goals as goal
 
 pub returns : goal.returns
 returns c = record {
-  inside = λ rows e at text lawful. point_inside rows e lawful at text;
-  outside = λ rows e at text lawful. point_outside rows e lawful at text;
-  undecided = point_open;
+  inside = λ model e at text lawful. point_inside model.rows e lawful at text;
+  outside = λ model e at text lawful. point_outside model.rows e lawful at text;
+  undecided = λ model. point_open model.rows;
 }
