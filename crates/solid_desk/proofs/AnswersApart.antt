@@ -4,6 +4,7 @@ use Rattle.solid_base.specs.declared.classes.Class.{Class}
 use Rattle.solid_base.specs.declared.classes.Class.TheVariants as class
 use Rattle.solid_base.specs.declared.classes.Verdict.{Verdict}
 use Rattle.solid_base.specs.declared.entities.Entity.{Entity}
+use Rattle.solid_base.specs.declared.entities.Model.{Model}
 use Rattle.solid_base.specs.declared.solids.Row.{Row}
 use Rattle.solid_base.specs.declared.solids.Row.TheVariants as row
 use Rattle.solid_base.specs.References.{row_at}
@@ -12,7 +13,7 @@ use Rattle.solid_questions.specs.declared.questions.Question.TheVariants as ques
 use Rattle.solid_questions.specs.declared.refusals.Refusal.{Refusal}
 use Rattle.solid_questions.specs.Questions.{entity_of}
 use Rattle.solid_questions.specs.Bodies.{IsBody, one_verdict, class_words, items_words}
-use Rattle.ask_core.specs.Answers.{IsAnswer, IsAnswerUnless, refusal_on, cell_verdicts}
+use Rattle.ask_core.specs.Answers.{IsAnswer, IsAnswerOn, IsExport, IsAnswerUnless, refusal_on, cell_verdicts}
 
 -- the first byte of a text, 0 where it has none
 abbrev first_byte : List ℕ → ℕ
@@ -57,5 +58,22 @@ unless_byte : (refusal : Option Refusal) (rows : List Entity) (q : Question) (te
 unless_byte (Some refusal) rows q text h = of_byte text 82 (λ no. omega (arith, no)) (ap (λ (t : List ℕ). first_byte t) h)
 unless_byte None rows q text h = body_byte q (row_at rows (entity_of q)) (cell_verdicts rows q) text h
 
-pub no_cancelled : (rows : List Entity) (q : Question) (text : List ℕ) (later : ℕ) → IsAnswer rows q text → text ≢ codes "CANCELLED " ++ decimal later
-no_cancelled rows q text later (unread, first, answer) same = unless_byte (refusal_on rows q unread) rows q text answer (ap (λ (t : List ℕ). first_byte t) same)
+rows_byte : (rows : List Entity) (q : Question) (text : List ℕ) → IsAnswerOn rows q text → first_byte text ≢ 67
+rows_byte rows q text (unread, first, answer) = unless_byte (refusal_on rows q unread) rows q text answer
+
+export_byte : (model : Model) (text : List ℕ) → IsExport model text → first_byte text ≢ 67
+export_byte model [] is = λ same. omega (arith, same)
+export_byte model (byte ∷ text) is = of_byte (byte ∷ text) 69 (λ no. omega (arith, no)) (ap (λ (t : List ℕ). first_byte t) is)
+
+answer_byte : (model : Model) (q : Question) (text : List ℕ) → IsAnswer model q text → first_byte text ≢ 67
+answer_byte model (question.Point e at) text is = rows_byte model.rows (question.Point e at) text is
+answer_byte model (question.Cell e cube) text is = rows_byte model.rows (question.Cell e cube) text is
+answer_byte model (question.Items e) text is = rows_byte model.rows (question.Items e) text is
+answer_byte model (question.Section e z x0 y0 step nx ny) text is = rows_byte model.rows (question.Section e z x0 y0 step nx ny) text is
+answer_byte model (question.Volume e cube depth) text is = rows_byte model.rows (question.Volume e cube depth) text is
+answer_byte model (question.Bounds e cube depth) text is = rows_byte model.rows (question.Bounds e cube depth) text is
+answer_byte model question.Export text is = export_byte model text is
+answer_byte model question.Newest text is = rows_byte model.rows question.Newest text is
+
+pub no_cancelled : (model : Model) (q : Question) (text : List ℕ) (later : ℕ) → IsAnswer model q text → text ≢ codes "CANCELLED " ++ decimal later
+no_cancelled model q text later is same = answer_byte model q text is (ap (λ (t : List ℕ). first_byte t) same)

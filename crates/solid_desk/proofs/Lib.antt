@@ -4,3 +4,15 @@ pub mod OpeningOnly
 pub mod AnswersApart
 pub mod OneReading
 pub mod Worked
+pub mod RunsLegal
+pub mod OneRun
+pub mod RepliesMean
+pub mod SomeRun
+pub mod OneWork
+pub mod LawfulBatches
+pub mod WorkedRuns
+pub mod Staging
+pub mod DeskSteps
+pub mod Sums
+pub mod LegalByCount
+pub mod SideBySide

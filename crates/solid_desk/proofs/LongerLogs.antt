@@ -1,24 +1,15 @@
 -- What is true by a log stays true by a longer one, and a session goes on at its end.
-use Rattle.std.proofs.Common.{◌≡◌, ℕ, zero, suc, ◌≤◌, Bool, List, [], ◌∷◌, ◌++◌, length, Some, slice_get, refl, arith}
+use Rattle.std.proofs.Common.{◌≡◌, ℕ, suc, ◌≤◌, Bool, List, [], ◌∷◌, ◌++◌, length, refl, arith}
 use Rattle.std.proofs.lemmas.List.{length-append}
 use Rattle.solid_base.specs.declared.entities.Model.{Model}
 use Rattle.solid_questions.specs.declared.questions.Question.{Question}
 use Rattle.script_lines.specs.declared.commands.Command.{Command}
 use Rattle.script_lines.specs.declared.commands.Command.TheVariants as command
-use Rattle.edit_core.specs.Versions.{LogEntry, IsVersion, opening_version, next_version}
+use Rattle.edit_core.specs.Versions.{LogEntry}
+use Rattle.edit_core.proofs.Logs.{entry_stays, version_stays}
 use Rattle.solid_desk.specs.Outcomes.{Outcome, bad_line, staged, committed, refused, answered, cancelled, no_memory}
 use Rattle.solid_desk.specs.Sessions.{Standing, standing_after, standing_from}
 use Rattle.solid_desk.specs.Legal.{IsShown, IsAsked, IsEdit, IsOutcome, IsSession, AreSessions}
-
-pub entry_stays : {X : Type 0} (log rest : List X) (place : ℕ) (entry : X) → slice_get log place ≡ Some entry → slice_get (log ++ rest) place ≡ Some entry
-entry_stays [] rest place entry e = absurd (cc)
-entry_stays (first ∷ log) rest zero entry e = e
-entry_stays (first ∷ log) rest (suc place) entry e = entry_stays log rest place entry e
-
-pub version_stays : (opening : Model) (log rest : List LogEntry) (v : ℕ) (model : Model) → IsVersion opening log v model → IsVersion opening (log ++ rest) v model
-version_stays opening log rest v model opening_version = opening_version
-version_stays opening log rest v model (next_version {v = u} {model = before} {entry = entry} h stands edited) =
-    next_version (version_stays opening log rest u before h) (entry_stays log rest u entry stands) edited
 
 within_longer : (log rest : List LogEntry) (v : ℕ) → v ≤ length log → v ≤ length (log ++ rest)
 within_longer log rest v h = omega (arith, h, length-append log rest)
@@ -42,6 +33,7 @@ asked_stays opening log rest at q live (answered version body) h = record {
 }
 asked_stays opening log rest at q live (cancelled version later) h = record {
   may = h.may;
+  cells = h.cells;
   model = h.model;
   shown = shown_stays opening log rest at version h.model h.shown;
   not_refused = h.not_refused;

@@ -10,32 +10,14 @@ use Rattle.script_lines.specs.declared.faults.LineFault.{LineFault}
 use Rattle.edit_core.specs.declared.changes.Change.TheVariants as change
 use Rattle.edit_core.specs.declared.faults.EditFault.{EditFault}
 use Rattle.edit_core.specs.Batches.{stage}
-use Rattle.edit_core.specs.Edits.{IsRefused, IsEdited}
-use Rattle.edit_core.specs.Versions.{LogEntry, IsVersion, IsLawfulLog, opening_version, next_version}
-use Rattle.edit_core.proofs.OneVersion.{fault_unique, model_unique}
+use Rattle.edit_core.specs.Edits.{IsRefused}
+use Rattle.edit_core.specs.Versions.{LogEntry, IsLawfulLog}
+use Rattle.edit_core.proofs.Logs.{version_unique, few_versions}
+use Rattle.edit_core.proofs.OneVersion.{fault_unique}
 use Rattle.solid_desk.specs.Outcomes.{Outcome, bad_line, staged, committed, refused, answered, cancelled, no_memory, with_version, without_version, reply_of}
 use Rattle.solid_desk.specs.Sessions.{Standing, at_start, standing_after}
 use Rattle.solid_desk.specs.Legal.{IsRefusedCommit, IsAsked, IsEdit, IsOutcome, IsSession, AreSessions, IsLegal}
 use Rattle.solid_desk.proofs.AnswersApart.{no_cancelled}
-
--- ---- versions
-
-few_versions : (opening : Model) (log : List LogEntry) (v : ℕ) (model : Model) → IsVersion opening log v model → v ≤ 10000
-few_versions opening log v model opening_version = omega arith
-few_versions opening log v model (next_version {v = u} {model = before} h stands edited) = go (few_versions opening log u before h) edited.may.below where
-  go : u ≤ 10000 → u ≢ 10000 → suc u ≤ 10000
-  go few below = omega (arith, few, below)
-
-same_entry : (a b : LogEntry) → ◌≡◌ {A = Option LogEntry} (Some a) (Some b) → a ≡ b
-same_entry a b h = cc
-
-version_unique : (opening : Model) (log : List LogEntry) (v : ℕ) (a b : Model) → IsVersion opening log v a → IsVersion opening log v b → a ≡ b
-version_unique opening log v a b opening_version opening_version = refl
-version_unique opening log v a b (next_version {v = u} {model = m} {entry = d} h stands edited) (next_version {model = n} {entry = e} k stands_too also) =
-    let entry = same_entry e d (sym stands_too ∙ stands) in
-    let model = version_unique opening log u m n h k in
-    let again = subst (λ (x : LogEntry). IsEdited n u x.batch b) entry also in
-    model_unique m u d.batch a b edited (subst (λ (x : Model). IsEdited x u d.batch b) (sym model) again)
 
 -- ---- replies
 
@@ -78,14 +60,14 @@ module _ (opening : Model) (log : List LogEntry) (few : length log ≤ 10000) wh
   asked_same at q live (answered v body) (answered w text) h k same =
       same_answer v w body text (same_version v w body text same) (same_body (with_version v body) (with_version w text) same)
   asked_same at q live (answered v body) (cancelled w later) h k same =
-      absurd (no_cancelled h.model.rows q body later h.afresh (same_body (reply_of (answered v body)) (reply_of (cancelled w later)) same))
+      absurd (no_cancelled h.model q body later h.afresh (same_body (reply_of (answered v body)) (reply_of (cancelled w later)) same))
   asked_same at q live (answered v body) no_memory h k same = absurd (one_has_none v body (codes "MEMORY") same)
   asked_same at q live (cancelled v later) (bad_line f) h k same = absurd k
   asked_same at q live (cancelled v later) (staged count) h k same = absurd k
   asked_same at q live (cancelled v later) (committed w) h k same = absurd k
   asked_same at q live (cancelled v later) (refused w f) h k same = absurd k
   asked_same at q live (cancelled v later) (answered w text) h k same =
-      absurd (no_cancelled k.model.rows q text later k.afresh (sym (same_body (reply_of (cancelled v later)) (reply_of (answered w text)) same)))
+      absurd (no_cancelled k.model q text later k.afresh (sym (same_body (reply_of (cancelled v later)) (reply_of (answered w text)) same)))
   asked_same at q live (cancelled v later) (cancelled w other) h k same =
       let text = same_body (reply_of (cancelled v later)) (reply_of (cancelled w other)) same in
       let number : decimal later ≡ decimal other = ap (λ (t : List ℕ). drop 10 t) text in

@@ -16,7 +16,7 @@ use Rattle.solid_desk.specs.WithoutCommits.{HaveNoCommit, NamesNoLaterVersion, N
 
 -- ---- the log
 
-of_all : {X : Type 0} (P : X → Type 0) (xs : List X) (place : ℕ) (x : X) → slice_get xs place ≡ Some x → AllByRecursion P xs → P x
+pub of_all : {X : Type 0} (P : X → Type 0) (xs : List X) (place : ℕ) (x : X) → slice_get xs place ≡ Some x → AllByRecursion P xs → P x
 of_all P [] place x at all = absurd (cc)
 of_all P (first ∷ xs) zero x at all = (let same : first ≡ x = cc in subst P same all.0)
 of_all P (first ∷ xs) (suc place) x at all = of_all P xs place x at all.1

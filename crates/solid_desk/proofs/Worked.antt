@@ -13,7 +13,7 @@ use Rattle.solid_questions.specs.declared.questions.Question.TheVariants as ques
 use Rattle.entity_graph.specs.Opaque.{IsUnread, IsOpaque, ReachesOpaque}
 use Rattle.script_lines.specs.declared.commands.Command.{Command}
 use Rattle.script_lines.specs.declared.commands.Command.TheVariants as command
-use Rattle.ask_core.specs.Answers.{IsAnswer}
+use Rattle.ask_core.specs.Answers.{IsAnswerOn}
 use Rattle.edit_core.specs.declared.changes.Change.TheVariants as change
 use Rattle.edit_core.specs.Batches.{Staged}
 use Rattle.edit_core.specs.Edits.{IsEdited}
@@ -47,7 +47,7 @@ none_unread rows k h =
     let opaque = subst (λ (n : ℕ). IsOpaque rows n) (sym same) h.1 in
     subst IsUnread (nothing_at_0 rows) opaque
 
-pub newest_afresh : (rows : List Entity) → IsAnswer rows question.Newest (codes "NEWEST")
+pub newest_afresh : (rows : List Entity) → IsAnswerOn rows question.Newest (codes "NEWEST")
 newest_afresh rows = (0, inl (refl, none_unread rows), refl)
 
 -- ---- a lawful outcome: one session replaces a row, another looks before and after
@@ -186,7 +186,7 @@ module _ (opening : Model) (log : List LogEntry) (v later : ℕ) where
   came_to (staged count) same h = h
   came_to (committed w) same h = h
   came_to (refused w f) same h = h
-  came_to (answered w text) same h = no_cancelled h.model.rows question.Newest text later h.afresh (sym (ap (λ (r : Reply). r.body) same))
+  came_to (answered w text) same h = no_cancelled h.model question.Newest text later h.afresh (sym (ap (λ (r : Reply). r.body) same))
   came_to (cancelled w other) same h = (let may : false ≡ true = h.may in cc)
   came_to no_memory same h = (let none : ◌≡◌ {A = Option ℕ} (Some v) None = ap (λ (r : Reply). r.version) same in cc)
 

@@ -1,15 +1,13 @@
 -- What a lawful outcome of a run is: its log and the replies of its sessions. solidd's own.
 use Rattle.std.specs.Prelude.{◌≡◌, ◌<◌, ◌≤◌, ◌⊎◌, ℕ, suc, List, [], ◌∷◌, ◌++◌, map, length}
-use Rattle.std.specs.Prelude.{Bool, IsTrue, Some, None, slice_get}
+use Rattle.std.specs.Prelude.{Bool, IsTrue, Some, slice_get}
 use Rattle.solid_base.specs.declared.entities.Model.{Model}
-use Rattle.solid_base.specs.declared.entities.Entity.{Entity}
 use Rattle.solid_base.specs.declared.replies.Reply.{Reply}
 use Rattle.solid_questions.specs.declared.questions.Question.{Question}
-use Rattle.solid_questions.specs.Questions.{entity_of}
-use Rattle.entity_graph.specs.Opaque.{IsFirstOpaque}
 use Rattle.script_lines.specs.declared.commands.Command.{Command}
 use Rattle.script_lines.specs.declared.commands.Command.TheVariants as command
-use Rattle.ask_core.specs.Answers.{IsAnswer, refusal_on}
+use Rattle.ask_core.specs.Answers.{IsAnswer}
+use Rattle.ask_core.specs.Books.{AsksCells, IsNotRefused}
 use Rattle.edit_core.specs.declared.changes.Change.TheVariants as change
 use Rattle.edit_core.specs.declared.faults.EditFault.{EditFault}
 use Rattle.edit_core.specs.Batches.{Staged, stage}
@@ -54,19 +52,14 @@ pub record IsAnswered (opening : Model) (log : List LogEntry) (at : Standing) (q
     (version : ℕ) (body : List ℕ) : Type 0 where
   pub model : Model
   pub shown : IsShown opening log at version model
-  pub afresh : IsAnswer model.rows q body
+  pub afresh : IsAnswer model q body
 
--- solidd's own: a question about a model with these rows isn't refused
-pub record IsNotRefused (rows : List Entity) (q : Question) : Type 0 where
-  pub unread : ℕ
-  pub first : IsFirstOpaque rows (entity_of q) unread
-  pub none : refusal_on rows q unread ≡ None
-
--- solidd's own: the question is live, isn't refused on the model of its version, and was given up
--- for a later version of the log
+-- solidd's own: the question is live, asks about cells, isn't refused on the model of its version,
+-- and was given up for a later version of the log
 pub record IsCancelled (opening : Model) (log : List LogEntry) (at : Standing) (q : Question)
     (live : Bool) (version later : ℕ) : Type 0 where
   pub may : IsTrue live
+  pub cells : AsksCells q
   pub model : Model
   pub shown : IsShown opening log at version model
   pub not_refused : IsNotRefused model.rows q

@@ -1,10 +1,11 @@
 -- What a line of a script comes to, and the reply that says so. solidd's own.
-use Rattle.std.specs.Prelude.{ℕ, max, List, ◌++◌, codes, decimal, Some, None}
+use Rattle.std.specs.Prelude.{ℕ, max, List, ◌++◌, codes, decimal, Option, Some, None}
 use Rattle.solid_base.specs.declared.replies.Reply.{Reply}
 use Rattle.script_lines.specs.declared.faults.LineFault.{LineFault}
 use Rattle.script_lines.specs.Faults.{line_fault_words}
 use Rattle.edit_core.specs.declared.faults.EditFault.{EditFault}
-use Rattle.edit_core.specs.EditFaults.{fault_words}
+pub use Rattle.ask_core.specs.Replies.{with_version}
+use Rattle.ask_core.specs.Replies.{committed_reply, refused_reply, cancelled_reply}
 
 -- solidd's own: what a line comes to
 pub data Outcome : Type 0 where
@@ -23,10 +24,6 @@ pub data Outcome : Type 0 where
   -- there wasn't enough memory for the line
   no_memory : Outcome
 
--- solidd's own: a reply that looked at the model of a version
-abbrev pub with_version : ℕ → List ℕ → Reply
-with_version version body = record { version = Some version; body = body }
-
 -- solidd's own: a reply that looked at no version
 abbrev pub without_version : List ℕ → Reply
 without_version body = record { version = None; body = body }
@@ -35,10 +32,10 @@ without_version body = record { version = None; body = body }
 abbrev pub reply_of : Outcome → Reply
 reply_of (bad_line f) = without_version (codes "REFUSED " ++ line_fault_words f)
 reply_of (staged count) = without_version (codes "STAGED " ++ decimal count)
-reply_of (committed version) = with_version version (codes "COMMITTED")
-reply_of (refused version f) = with_version version (codes "REFUSED " ++ fault_words f)
+reply_of (committed version) = committed_reply version
+reply_of (refused version f) = refused_reply version f
 reply_of (answered version body) = with_version version body
-reply_of (cancelled version later) = with_version version (codes "CANCELLED " ++ decimal later)
+reply_of (cancelled version later) = cancelled_reply version later
 reply_of no_memory = without_version (codes "MEMORY")
 
 -- solidd's own: the greatest version that a reply names, 0 where it names none. A cancelled one
@@ -51,3 +48,14 @@ named_version (refused version f) = version
 named_version (answered version body) = version
 named_version (cancelled version later) = max version later
 named_version no_memory = 0
+
+-- ---- the text of a reply
+
+-- the version that a reply speaks of, or `-` where it looked at none
+abbrev pub version_text : Option ℕ → List ℕ
+version_text None = codes "-"
+version_text (Some version) = decimal version
+
+-- solidd's own: a reply in the output: its version, a blank, its body, LF
+abbrev pub reply_text : Reply → List ℕ
+reply_text reply = version_text reply.version ++ (codes " " ++ (reply.body ++ codes "\n"))

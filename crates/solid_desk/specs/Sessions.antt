@@ -73,3 +73,8 @@ standing_from at [] outcomes = at
 standing_from at (c ∷ commands) [] = at
 standing_from at (c ∷ commands) (outcome ∷ outcomes) =
     standing_from (standing_after at c outcome) commands outcomes
+
+-- where a session stands after a line that staged a change
+abbrev pub after_staging : Standing → ℕ → Change → Standing
+after_staging at de c =
+    record { line = suc at.line; batch = stage at.batch de c; shown = at.shown }

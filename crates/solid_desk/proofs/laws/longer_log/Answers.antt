@@ -1,4 +1,5 @@
-use Rattle.solid_desk.proofs.LongerLogs.{version_stays, outcome_stays, session_stays, sessions_stay}
+use Rattle.edit_core.proofs.Logs.{version_stays}
+use Rattle.solid_desk.proofs.LongerLogs.{outcome_stays, session_stays, sessions_stay}
 use Rattle.solid_desk.proofs.laws.longer_log.Goals as goal
 
 pub returns-clause-version : goal.returns-clause-version
