@@ -3,8 +3,6 @@ pub mod Meaning
 pub mod Reading
 pub mod ReplayLaws
 pub mod ReplayOnce
-pub mod RepliesOnce
-pub mod ReplyLaws
 pub mod RootLaws
 pub mod RowLaws
 pub mod RunLaws

@@ -1,7 +1,5 @@
 -- Which entities are named, and the lines of those solids that aren't.
-use Rattle.std.proofs.Common.{◌≡◌, ◌≢◌, ◌⊎◌, inl, inr, ◌==◌, ◌||◌, ◌&&◌, not, if◌then◌else◌, ℕ, zero, suc, ◌+◌, ◌*◌, ◌<◌, Bool, true, false, List, [], ◌∷◌, ◌++◌, length, take, drop, get_or, set, Some, slice_get, refl, sym, ap, ◌∙◌, append-nil, append_assoc, length-set, arith}
-use Rattle.std.proofs.Math.ListN.{drop_of_length-le}
-use Rattle.std.proofs.lemmas.List.{take_all}
+use Rattle.std.proofs.Common.{◌≡◌, ◌≢◌, ◌⊎◌, inl, inr, ◌==◌, ◌||◌, ◌&&◌, not, if◌then◌else◌, ℕ, zero, suc, ◌+◌, ◌*◌, ◌<◌, Bool, true, false, List, [], ◌∷◌, ◌++◌, length, take, drop, get_or, set, Some, slice_get, refl, sym, ap, ◌∙◌, append_assoc, length-set, arith}
 use Rattle.std.proofs.lemmas.Option.{slice_get_within, slice_get-get_or}
 use Rattle.std.proofs.Math.Bool.{or-false}
 use Rattle.std.specs.List.{list_any}
@@ -63,12 +61,6 @@ marks_place before now numbers k n place within is own inside h = record { size 
       get_or-set_other now place i true false e ∙ more before now numbers k n i within is (h.marks i j) other
 
 -- ---- all rows
-
--- what a slice of a whole list writes back
-pub written_back : {A : Type 0} (now items : List A) (size : ℕ) → length now ≡ length items → size ≡ length items → take size (now ++ drop (length now) items) ≡ now
-written_back now items size same whole =
-    let none : drop (length now) items ≡ [] = drop_of_length-le items (omega (arith, same)) in
-    ap (λ rest. take size (now ++ rest)) none ∙ ap (take size) (append-nil now) ∙ take_all size now (omega (arith, same, whole))
 
 -- one row more
 pub named_step : (rows : List Entity) (at i : ℕ) (e : Entity) (before now : Bool) → slice_get rows at ≡ Some e → before ≡ list_any (names (2 * i + 1)) (take at rows) → now ≡ (before || names (2 * i + 1) e)

@@ -1,13 +1,12 @@
 -- How a run ends, from how it reads, answers and writes.
-use Rattle.std.proofs.Common.{◌≡◌, ◌≢◌, ◌⊎◌, ◌↔◌, inl, inr, ℕ, ◌+◌, ◌<◌, ◌≤◌, Bool, true, List, [], ◌∷◌, ◌++◌, length, Option, None, Some, is_some, ap, sym, subst, refl, ◌∙◌, arith, append-nil, length-append}
+use Rattle.std.proofs.Common.{◌≡◌, ◌≢◌, ◌⊎◌, inl, inr, ℕ, ◌≤◌, true, List, [], ◌∷◌, ◌++◌, length, Option, None, Some, is_some, ap, sym, subst, refl, ◌∙◌, arith, append-nil, length-append}
 use Rattle.std.specs.Io.KnownBytes.{Appends, Consumes, Keeps}
-use Rattle.solid_base.specs.Ledgers.{counted}
 use Rattle.solid_io.specs.Causes.{SameKnown}
 use Rattle.solid_top.specs.declared.commands.Command.{Command}
 use Rattle.solid_top.specs.declared.commands.Command.TheVariants as command
 use Rattle.solid_top.specs.declared.statuses.Status.{Status}
 use Rattle.solid_top.specs.declared.statuses.Status.TheVariants as status
-use Rattle.solid_top.specs.Commands.{word_of, Names, IsCommand, Answers, usage_text, too_long_text}
+use Rattle.solid_top.specs.Commands.{word_of, Names, IsCommand, Answers}
 use Rattle.solid_top.specs.Run.{IsInput, Comes, ComesOf, Finishes, Ends, IsRun, IsDue, EndsDue}
 use Rattle.solid_top.specs.Streams.{AppendsFront, IsLongRead, IsShortRead, most_bytes}
 use Rattle.solid_top.proofs.CheckLaws.{checked_once}

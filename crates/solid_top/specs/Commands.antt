@@ -4,7 +4,7 @@ use Rattle.solid_top.specs.declared.commands.Command.{Command}
 use Rattle.solid_top.specs.declared.commands.Command.TheVariants as command
 use Rattle.solid_top.specs.declared.statuses.Status.{Status}
 use Rattle.solid_top.specs.Checks.{IsCheckOutput}
-use Rattle.solid_top.specs.Replay.{IsReplayOutput, IsReplayRefusal}
+use Rattle.solid_top.specs.Replay.{IsReplayOutput}
 use Rattle.solid_top.specs.Statuses.{IsDoneOrRefused}
 use Rattle.solid_top.specs.TopFaults.{IsRefusal}
 
@@ -26,14 +26,9 @@ abbrev pub IsOutputOf : Command → List ℕ → List ℕ → Type 0
 IsOutputOf command.Check bytes text = IsCheckOutput bytes text
 IsOutputOf command.Replay bytes text = IsReplayOutput bytes text
 
--- the line that it prints for bytes that it refuses
-abbrev pub IsRefusalOf : Command → List ℕ → List ℕ → Type 0
-IsRefusalOf command.Check bytes text = IsRefusal bytes text
-IsRefusalOf command.Replay bytes text = IsReplayRefusal bytes text
-
 -- the status and the text that a command answers to bytes
 abbrev pub Answers : Command → List ℕ → Status → List ℕ → Type 0
-Answers c bytes s text = IsDoneOrRefused (IsOutputOf c bytes) (IsRefusalOf c bytes) s text
+Answers c bytes s text = IsDoneOrRefused (IsOutputOf c bytes) (IsRefusal bytes) s text
 
 -- what is printed where they are no command
 abbrev pub usage_text : List ℕ

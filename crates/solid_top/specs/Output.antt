@@ -1,33 +1,22 @@
 -- solidd's own: the text that a run prints: the log of the commits, the replies of each session,
 -- and END.
-use Rattle.std.specs.Prelude.{ℕ, suc, List, [], ◌∷◌, ◌++◌, codes, decimal, length, Option, None}
-use Rattle.std.specs.Prelude.{Some}
+use Rattle.std.specs.Prelude.{ℕ, suc, List, [], ◌∷◌, ◌++◌, codes, decimal, length}
 use Rattle.std.specs.List.{flat_map}
 use Rattle.solid_base.specs.declared.replies.Reply.{Reply}
+use Rattle.edit_core.specs.Versions.{LogEntry}
+use Rattle.solid_desk.specs.Outcomes.{reply_text}
 
--- the version that a reply speaks of, or `-` where it looked at none
-abbrev pub version_text : Option ℕ → List ℕ
-version_text None = codes "-"
-version_text (Some version) = decimal version
-
--- a reply: its version, a blank, its body, LF
-abbrev pub reply_text : Reply → List ℕ
-reply_text reply = version_text reply.version ++ (codes " " ++ (reply.body ++ codes "\n"))
-
--- a commit in the log: the session that made it, and the number of its line among that session's
--- lines
-pub record LogEntry : Type 0 where
-  pub session : ℕ
-  pub line : ℕ
+-- a commit in the log: the version that it made, the session that made it, and the number of its
+-- line among that session's lines, counted from 1
+abbrev pub entry_text : ℕ → LogEntry → List ℕ
+entry_text version entry =
+    decimal version
+    ++ (codes " @" ++ (decimal entry.session ++ (codes " " ++ (decimal entry.line ++ codes "\n"))))
 
 -- one line for each version from a first one on
 abbrev pub log_text : ℕ → List LogEntry → List ℕ
 log_text version [] = []
-log_text version (entry ∷ log) =
-    decimal version
-    ++ (codes " @"
-    ++ (decimal entry.session
-    ++ (codes " " ++ (decimal entry.line ++ (codes "\n" ++ log_text (suc version) log)))))
+log_text version (entry ∷ log) = entry_text version entry ++ log_text (suc version) log
 
 -- a session's number, the number of its replies, and these; nothing for a session without a line
 abbrev pub session_text : ℕ → List Reply → List ℕ

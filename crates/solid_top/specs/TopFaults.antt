@@ -6,18 +6,15 @@ use Rattle.iges_file.specs.Faults as files
 use Rattle.solid_top.specs.declared.faults.TopFault.{TopFault}
 use Rattle.solid_top.specs.declared.faults.TopFault.TheVariants as fault
 
--- the number of a fault: that of the file's fault where there is one
+-- the number of a fault: that of the file's fault
 abbrev pub top_number : TopFault → ℕ
-top_number fault.NotBuilt = 30
 top_number (fault.File f) = files.fault_number f
 
 -- neither the fault nor a fault in it is out of memory
 abbrev pub IsOfText : TopFault → Type 0
-IsOfText fault.NotBuilt = Unit {0}
 IsOfText (fault.File f) = files.IsOfText f
 
 abbrev pub top_words : TopFault → List ℕ
-top_words fault.NotBuilt = codes "NotBuilt"
 top_words (fault.File f) = files.fault_words f
 
 -- the line for a refused model

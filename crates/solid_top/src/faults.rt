@@ -2,40 +2,35 @@ ghost use Rattle.std.specs.Prelude.{◌≡◌, ◌↔◌, IsTrue, IsErr, IfOk};
 ghost use Rattle.solid_top.specs.TopFaults.{IsOfText, top_number, top_words};
 
 use iges_file::FileFault;
-use solid_base::{Bytes, word};
+use solid_base::Bytes;
 use std::alloc::{AllocError, Global};
 use thiserror::Error;
 
 /// Why a model is not served.
 #[derive(Clone, Copy, Debug, PartialEq, Eq, Error)]
 pub enum TopFault {
-    /// A row of the model, or a line after the file, is of a kind that is not served yet.
-    #[error("the model holds what is not served yet")]
-    NotBuilt,
     /// The bytes are no file that is read.
     #[error("the file is faulty")]
     File(FileFault),
 }
 
 impl TopFault {
-    /// The number of the fault: that of the file's fault, or 30.
+    /// The number of the fault: that of the file's fault.
     pub fn number(&self) -> u32
         ensures { result ≡ top_number self.now }
     {
         match self {
-            TopFault::NotBuilt => 30,
             TopFault::File(fault) => fault.number(),
         }
     }
 
-    /// The printed words of the fault: those of the file's fault, or NotBuilt. AllocError when out
-    /// of memory. Out of memory itself is never printed.
+    /// The printed words of the fault: those of the file's fault. AllocError when out of memory.
+    /// Out of memory itself is never printed.
     pub fn write_fault(&self, alloc: Global) -> Result<Bytes, AllocError>
         requires { IsOfText self.now }
         ensures { IfOk result (λ words. words ≡ top_words self.now) }
     {
         match self {
-            TopFault::NotBuilt => word(alloc, b"NotBuilt"),
             TopFault::File(fault) => fault.write_fault(alloc),
         }
     }

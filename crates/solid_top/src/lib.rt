@@ -2,8 +2,8 @@
 //! ended. Contracts see the bytes that a source gave and a sink took, and say by definitions on
 //! whole texts which input is taken, what is answered to it, and why each status comes. The modules
 //! are read in this order: `statuses`, `faults`, `outputs`; `report`, `roots` and `checks` for what
-//! `check` reports; `sessions`, `replies` and `replay` for what `replay` answers; `commands`,
-//! `streams` and `program` for the run; `laws` and `program_laws`.
+//! `check` reports; `sessions` and `replay` for what `replay` answers; `commands`, `streams` and
+//! `program` for the run; `laws` and `program_laws`.
 #![tactic(auto)]
 
 mod checks;
@@ -14,7 +14,6 @@ mod outputs;
 mod program;
 pub mod program_laws;
 mod replay;
-mod replies;
 mod report;
 mod roots;
 mod sessions;
@@ -29,6 +28,8 @@ pub use program::run;
 pub use replay::replay_run;
 pub use statuses::Status;
 
+#[cfg(test)]
+mod edit_tests;
 #[cfg(test)]
 mod replay_tests;
 #[cfg(test)]

@@ -1,6 +1,7 @@
 //! Replays of worked files: each question, points on each kind of row, each kind of refusal, and
 //! the sessions of a script.
 use crate::{Status, TopFault, replay_run};
+use iges_file::FileFault;
 use solid_base::{Bytes, Tally};
 use std::alloc::{AllocError, Global};
 use std::process::Abort;
@@ -45,7 +46,7 @@ pub fn file_of(rt: &impl Abort, alloc: Global, records: &[Record]) -> Result<Byt
 
 /// What is expected of an input: its status, its text, and how often primitives are evaluated at
 /// most.
-fn expect_replay(
+pub fn expect_replay(
     rt: &impl Abort,
     alloc: Global,
     input: &[u8],
@@ -351,25 +352,7 @@ fn other_entities_are_refused(rt: HostRuntime) -> Result<(), AllocError> {
 fn other_inputs_are_refused(rt: HostRuntime) -> Result<(), AllocError> {
     let alloc = rt.alloc();
     let point = "@1 point 1 0 0 0\n";
-    let cases: [(&[Record], &str, &str); 13] = [
-        // Exports and the lines of an edit aren't answered yet.
-        (
-            &[(158, 0, BALL)],
-            "@1 point 1 0 0 0\n@2 export\n",
-            "NotBuilt",
-        ),
-        (
-            &[(158, 0, BALL)],
-            "@1 replace 1 158 0 0 158,1.;",
-            "NotBuilt",
-        ),
-        (&[(158, 0, BALL)], "@1 add 3 158 0 0 158,1.;\n", "NotBuilt"),
-        (
-            &[(110, 0, LINE)],
-            "hello\n@8 drop 1\n@1 newest\n",
-            "NotBuilt",
-        ),
-        (&[(110, 0, LINE)], "@1 commit\n", "NotBuilt"),
+    let cases: [(&[Record], &str, &str); 8] = [
         // A file's own fault comes first.
         (&[(158, 3, "158,0.;")], "@1 export\n", "BadRow 1 BadSize 1"),
         (&[(150, 0, BALL)], point, "BadRow 1 WrongKind 0"),
@@ -405,9 +388,10 @@ fn other_inputs_are_refused(rt: HostRuntime) -> Result<(), AllocError> {
     }
     let text = "MODEL REFUSED NoTerminate\n";
     expect_replay(&rt, alloc, b"", Status::Refused, text, 0)?;
-    let words = TopFault::NotBuilt.write_fault(alloc)?;
-    assert_eq!(rt; words.as_slice(), b"NotBuilt".as_slice());
-    assert_eq!(rt; TopFault::NotBuilt.number(), 30);
+    let fault = TopFault::File(FileFault::TooManyLines);
+    let words = fault.write_fault(alloc)?;
+    assert_eq!(rt; words.as_slice(), b"TooManyLines".as_slice());
+    assert_eq!(rt; fault.number(), 21);
     Ok(())
 }
 

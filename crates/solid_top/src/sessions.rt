@@ -1,16 +1,20 @@
-ghost use Rattle.std.specs.Prelude.{◌≡◌, ◌<◌, ◌+◌, ◌++◌, ◌^◌, ℕ, [], List, length, get_or, set};
-ghost use Rattle.std.specs.Prelude.{replicate, true, IfOk, OnOk};
+ghost use Rattle.std.specs.Prelude.{◌≡◌, ◌<◌, ◌+◌, ◌++◌, ◌^◌, ℕ, List, length, get_or, set, codes};
+ghost use Rattle.std.specs.Prelude.{decimal, replicate, IfOk, OnOk};
 ghost use Rattle.solid_base.specs.declared.replies.Reply.{Reply};
 ghost use Rattle.script_lines.specs.Grammar.{most_sessions};
-ghost use Rattle.solid_top.specs.Output.{output_text, session_text};
+ghost use Rattle.solid_top.specs.Output.{entry_text, log_text, output_text, session_text};
 ghost use Rattle.solid_top.specs.Sessions.{KeepEach, Keeps, no_replies};
 
+use ask_core::{Commit, Commits};
 use solid_base::{Bytes, push_decimal};
+use solid_desk::Session;
 use std::alloc::{AllocError, Global};
 
-/// The replies to the lines of one session: how many, and their text.
+/// A session while its lines are done: where it stands, and the replies to the lines that are done:
+/// how many, and their text.
 #[derive(Debug, Drop)]
-pub struct SessionReplies {
+pub struct Transcript {
+    pub stands: Session,
     pub count: u32,
     pub text: Bytes,
 }
@@ -19,13 +23,14 @@ pub struct SessionReplies {
 const SESSIONS: u32 = 9;
 
 /// The sessions, of which none has a reply yet.
-pub fn new_sessions(alloc: Global) -> Result<Vec<SessionReplies>, AllocError>
+pub fn new_sessions(alloc: Global) -> Result<Vec<Transcript>, AllocError>
     ensures { IfOk result (λ sessions. sessions.items ≡
         replicate (most_sessions + 1) no_replies) }
 {
     let mut sessions = Vec::new(alloc);
     for _ in 0..SESSIONS {
-        sessions.push(SessionReplies {
+        sessions.push(Transcript {
+            stands: Session::new(alloc),
             count: 0,
             text: Bytes::new(alloc),
         })?;
@@ -33,8 +38,35 @@ pub fn new_sessions(alloc: Global) -> Result<Vec<SessionReplies>, AllocError>
     Ok(sessions)
 }
 
+/// Adds the line of a commit, which made this version.
+fn push_entry(out: &mut Bytes, version: u32, commit: &Commit) -> Result<(), AllocError>
+    ensures { OnOk result (out.new ≡ out.old ++ entry_text version commit.now) }
+{
+    push_decimal(out, version)?;
+    out.extend_from_slice(b" @")?;
+    push_decimal(out, commit.session)?;
+    out.extend_from_slice(b" ")?;
+    push_decimal(out, commit.line)?;
+    out.extend_from_slice(b"\n")
+}
+
+/// Adds the number of the commits, and the line of each.
+fn push_log(out: &mut Bytes, log: &[Commit]) -> Result<(), AllocError>
+    requires { length log.now < 2 ^ 32 }
+    ensures { OnOk result (out.new ≡ out.old ++ (codes "LOG " ++ (decimal (length log.now) ++
+        (codes "\n" ++ log_text 1 log.now)))) }
+{
+    out.extend_from_slice(b"LOG ")?;
+    push_decimal(out, log.len() as u32)?;
+    out.extend_from_slice(b"\n")?;
+    for place in 0..log.len() {
+        push_entry(out, place as u32 + 1, &log[place])?;
+    }
+    Ok(())
+}
+
 /// Adds the number of a session, of its replies, and these. Nothing for a session without a line.
-fn push_session(out: &mut Bytes, number: u32, session: &SessionReplies) -> Result<(), AllocError>
+fn push_session(out: &mut Bytes, number: u32, session: &Transcript) -> Result<(), AllocError>
     ensures { OnOk result ((replies : List Reply) → Keeps session.now replies →
         out.new ≡ out.old ++ session_text number replies) }
 {
@@ -49,14 +81,19 @@ fn push_session(out: &mut Bytes, number: u32, session: &SessionReplies) -> Resul
     out.extend_from_slice(session.text.as_slice())
 }
 
-/// The text of a run without commits with these replies of the sessions from 0 on.
-pub fn output_text(alloc: Global, sessions: &[SessionReplies]) -> Result<Bytes, AllocError>
-    requires { length sessions.now < 2 ^ 32 }
+/// The text of a run with this log, and with these replies of the sessions from 0 on.
+pub fn output_text(
+    alloc: Global,
+    log: &Commits,
+    sessions: &[Transcript],
+) -> Result<Bytes, AllocError>
+    requires log { length log.now < 2 ^ 32 }
+    requires sessions { length sessions.now < 2 ^ 32 }
     ensures { IfOk result (λ text. (transcripts : List (List Reply)) →
-        KeepEach sessions.now transcripts → text ≡ output_text [] transcripts) }
+        KeepEach sessions.now transcripts → text ≡ output_text log.now transcripts) }
 {
     let mut text = Bytes::new(alloc);
-    text.extend_from_slice(b"LOG 0\n")?;
+    push_log(&mut text, log.as_slice())?;
     for number in 0..sessions.len() {
         push_session(&mut text, number as u32, &sessions[number])?;
     }

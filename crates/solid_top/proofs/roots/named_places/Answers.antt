@@ -1,6 +1,7 @@
 use Rattle.std.proofs.Common.{◌≡◌, ◌∙◌, ◌==◌, ◌||◌, ◌+◌, ◌*◌, ◌<◌, ap, ℕ, length, Bool, List, get_or, false, arith}
 use Rattle.std.specs.List.{list_any}
-use Rattle.solid_top.proofs.RootLaws.{written_back, named_step}
+use Rattle.solid_base.proofs.Slices.{written_back}
+use Rattle.solid_top.proofs.RootLaws.{named_step}
 use Rattle.solid_top.proofs.roots.named_places.Goals as goal
 
 pub loop-at-preserved : goal.loop-at-preserved
