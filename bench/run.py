@@ -5,7 +5,7 @@ Times PROGRAM on generated inputs, turn by turn with another program that gives 
 yardstick. Prints for each input both programs' best processor time (user and system), their peak memory
 and the ratios. Fails where an output or a status differs. With no yardstick there, times PROGRAM alone.
 The path of the yardstick comes from --yardstick, else from SOLIDD_YARDSTICK. It is run as
-`yardstick --stage 6 --engine plain COMMAND`, so that it evaluates each question anew and skips no operand.
+`yardstick --stage 7 --engine plain COMMAND`, so that it evaluates each question anew and skips no operand.
 """
 import argparse
 import filecmp
@@ -30,6 +30,9 @@ INPUTS = [
     ("a volume of depth 5, a tree of 50", "replay", "make_questions.py", ["--questions", "volume"]),
     ("extents of depth 5, a tree of 50", "replay", "make_questions.py", ["--questions", "bounds"]),
     ("300,000 script lines", "replay", "make_questions.py", ["--questions", "lines"]),
+    ("1,000 commits over 10,000 spheres", "replay", "make_edits.py", []),
+    ("1,000 commits over 100,000 spheres, 10 points after each", "replay", "make_edits.py", ["--spheres", "100000", "--points", "10"]),
+    ("an export of 100,000 spheres", "replay", "make_edits.py", ["--spheres", "100000", "--commits", "0", "--export"]),
 ] + [
     ("10,000 of %s, 200,000 points" % kind, "replay", "make_mixed.py", ["--points", "200000", "--kinds", kind])
     for kind in KINDS
@@ -90,7 +93,7 @@ def time_input(folder, args, name, command, maker, options):
     program = Timing("solidd", [os.path.abspath(args.program), command])
     yardstick = None
     if os.access(args.yardstick, os.X_OK):
-        yardstick = Timing("yardstick", [os.path.abspath(args.yardstick), "--stage", "6", "--engine", "plain", command])
+        yardstick = Timing("yardstick", [os.path.abspath(args.yardstick), "--stage", "7", "--engine", "plain", command])
     problem = compare(folder, program, yardstick, args.runs)
     print("%s, %.1f MB, best of %d" % (name, os.path.getsize(data) / 1e6, args.runs))
     if problem is not None:
