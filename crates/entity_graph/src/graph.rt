@@ -18,13 +18,14 @@ use crate::tables::Measure;
 use solid_base::{Numbers, Rows};
 use std::alloc::{AllocError, Global};
 use std::marker::Model;
+use std::snapshot::Snapshot;
 
 /// Rows whose references obey the rules, with an order in which what a row names comes before it,
 /// and the depth and the weight of each and the first row that it reaches and that isn't read.
 /// Contracts see the rows.
-#[derive(Debug, Drop)]
+#[derive(Drop)]
 pub struct Graph {
-    rows: Rows,
+    rows: Snapshot<Rows>,
     order: Vec<u32>,
     depths: Vec<u32>,
     weights: Vec<u32>,
@@ -39,10 +40,10 @@ impl Model for Graph {
 
     ghost use Rattle.entity_graph.specs.Tables.{AreTables};
 
-    ghost view = { λ g. g.rows };
+    ghost view = { λ g. g.rows.value };
 
     ghost invariant = { λ g.
-        AreTables g.rows g.order.items g.depths.items g.weights.items g.opaques.items };
+        AreTables g.rows.value g.order.items g.depths.items g.weights.items g.opaques.items };
 }
 
 impl Graph {
@@ -57,14 +58,49 @@ impl Graph {
         ensures sound { IfOk result (λ _. AreSound rows.now) }
         ensures first_fault { IfErr result (λ fault. IsOfText fault → IsFault rows.now fault) }
     {
-        let links = Links::read(alloc, rows.share(alloc)?)?;
-        check_references(&links)?;
-        let order = find_places(alloc, &links)?;
-        let depths = find_depths(alloc, &links, &order)?;
-        let weights = find_weights(alloc, &links, &order)?;
-        let opaques = Measure::Opaque.table(alloc, &links, &order)?;
+        Graph::of_links(alloc, &Links::read(alloc, rows)?)
+    }
+
+    /// The graph of rows and the stamps of the rows after a change of those with some numbers, as
+    /// `check` and `stamps` give them, from one reading of the references. The faults are those of
+    /// `check`.
+    pub fn check_stamped(
+        alloc: Global,
+        rows: &Rows,
+        old: &Stamps,
+        changed: &Numbers,
+        version: u64,
+    ) -> Result<(Graph, Stamps), GraphFault>
+        requires few { length rows.now ≤ 100000 }
+        requires known { (e : ℕ) →
+            HasNumber rows.now e → ¬ Contains changed.now e → HasNumber old.now e }
+        ensures graph { IfOk result (λ made. made.0 ≡ rows.now) }
+        ensures sound { IfOk result (λ _. AreSound rows.now) }
+        ensures one_each { IfOk result (λ made. length made.1 ≡ length rows.now) }
+        ensures stamps { IfOk result (λ made. (e s : ℕ) → at_number made.1 e ≡ Some s →
+            IsStamp rows.now changed.now version old.now e s) }
+        ensures first_fault { IfErr result (λ fault. IsOfText fault → IsFault rows.now fault) }
+    {
+        let links = Links::read(alloc, rows)?;
+        let graph = Graph::of_links(alloc, &links)?;
+        let stamps = graph.stamps_by(alloc, &links, old, changed, version)?;
+        Ok((graph, stamps))
+    }
+
+    /// The graph of rows whose references are read, or the first fault.
+    fn of_links(alloc: Global, links: &Links<'_>) -> Result<Graph, GraphFault>
+        requires { length links.now ≤ 100000 }
+        ensures graph { IfOk result (λ graph. graph ≡ links.now) }
+        ensures sound { IfOk result (λ _. AreSound links.now) }
+        ensures first_fault { IfErr result (λ fault. IsOfText fault → IsFault links.now fault) }
+    {
+        check_references(links)?;
+        let order = find_places(alloc, links)?;
+        let depths = find_depths(alloc, links, &order)?;
+        let weights = find_weights(alloc, links, &order)?;
+        let opaques = Measure::Opaque.table(alloc, links, &order)?;
         Ok(Graph {
-            rows: links.into_rows(),
+            rows: Snapshot::of(links.rows()),
             order,
             depths,
             weights,
@@ -137,9 +173,29 @@ impl Graph {
         ensures stamps { IfOk result (λ stamps. (e s : ℕ) → at_number stamps e ≡ Some s →
             IsStamp rows.now changed.now version old.now e s) }
     {
-        let mut marked = Marks::none(alloc, rows.len())?;
+        let links = Links::read(alloc, rows)?;
+        self.stamps_by(alloc, &links, old, changed, version)
+    }
+
+    /// The same from the references, which are read.
+    fn stamps_by(
+        &self,
+        alloc: Global,
+        links: &Links<'_>,
+        old: &Stamps,
+        changed: &Numbers,
+        version: u64,
+    ) -> Result<Stamps, AllocError>
+        requires graph { self.now ≡ links.now }
+        requires known { (e : ℕ) →
+            HasNumber links.now e → ¬ Contains changed.now e → HasNumber old.now e }
+        ensures one_each { IfOk result (λ stamps. length stamps ≡ length links.now) }
+        ensures stamps { IfOk result (λ stamps. (e s : ℕ) → at_number stamps e ≡ Some s →
+            IsStamp links.now changed.now version old.now e s) }
+    {
+        let mut marked = Marks::none(alloc, links.len())?;
         marked.mark_numbers(changed.as_slice());
-        let marks = mark_reaching(alloc, rows, &self.order, marked)?;
+        let marks = mark_reaching(links, &self.order, marked);
         old.renewed(alloc, &marks, version)
     }
 }

@@ -25,13 +25,13 @@ fn part(items: &[Reference], start: usize, end: usize) -> &[Reference]
 
 /// Rows and the references of all of them, one row after another. Contracts see the rows.
 #[derive(Debug, Drop)]
-pub struct Links {
-    rows: Rows,
+pub struct Links<'a> {
+    rows: &'a Rows,
     items: List<Reference>,
     ends: Vec<usize>,
 }
 
-impl Model for Links {
+impl<'a> Model for Links<'a> {
     ghost use Rattle.std.specs.Prelude.{List};
     ghost use Rattle.solid_base.specs.declared.entities.Entity.{Entity};
 
@@ -39,15 +39,15 @@ impl Model for Links {
 
     ghost use Rattle.entity_graph.specs.Links.{AreLinks};
 
-    ghost view = { λ l. l.rows };
+    ghost view = { λ l. l.rows.now };
 
-    ghost invariant = { λ l. AreLinks l.rows l.items l.ends.items };
+    ghost invariant = { λ l. AreLinks l.rows.now l.items l.ends.items };
 }
 
-impl Links {
+impl<'a> Links<'a> {
     /// Reads the references of rows.
-    pub fn read(alloc: Global, rows: Rows) -> Result<Links, AllocError>
-        ensures { IfOk result (λ links. links ≡ rows) }
+    pub fn read(alloc: Global, rows: &'a Rows) -> Result<Links<'a>, AllocError>
+        ensures { IfOk result (λ links. links ≡ rows.now) }
     {
         let mut items = List::from_vec(Vec::with_capacity(alloc, rows.len())?);
         let mut ends = Vec::with_capacity(alloc, rows.len())?;
@@ -61,13 +61,6 @@ impl Links {
     /// The rows.
     pub fn rows(&self) -> &Rows
         ensures { result.now ≡ self.now }
-    {
-        &self.rows
-    }
-
-    /// The rows alone.
-    pub fn into_rows(self) -> Rows
-        ensures { result ≡ self }
     {
         self.rows
     }

@@ -5,6 +5,7 @@ ghost use Rattle.entity_graph.specs.Links.{places};
 ghost use Rattle.entity_graph.specs.Marks.{IsMarked, IsReached, ReachesMarked};
 ghost use Rattle.entity_graph.specs.Order.{IsWhole};
 
+use crate::links::Links;
 use crate::marks::Marks;
 use crate::tables::number_at;
 use solid_base::{List, Reference, Rows, with_references};
@@ -47,28 +48,20 @@ pub fn mark_reached(
 }
 
 /// Marks all rows that reach a marked one, by an order in which what a row names comes before it.
-pub fn mark_reaching(
-    alloc: Global,
-    rows: &Rows,
-    order: &[u32],
-    marked: Marks,
-) -> Result<Marks, AllocError>
-    requires few { length rows.now ≤ 100000 }
-    requires present { ArePresent rows.now }
-    requires whole { IsWhole (places rows.now) order.now }
-    requires size { length marked ≡ length rows.now }
-    ensures size { IfOk result (λ marks. length marks ≡ length rows.now) }
-    ensures reaching { IfOk result (λ marks. (e : ℕ) →
-        IsMarked marks e ↔ ReachesMarked rows.now marked e) }
+/// It takes no memory.
+pub fn mark_reaching(links: &Links<'_>, order: &[u32], marked: Marks) -> Marks
+    requires few { length links.now ≤ 100000 }
+    requires present { ArePresent links.now }
+    requires whole { IsWhole (places links.now) order.now }
+    requires size { length marked ≡ length links.now }
+    ensures size { length result ≡ length links.now }
+    ensures reaching { (e : ℕ) → IsMarked result e ↔ ReachesMarked links.now marked e }
 {
     let mut marks = marked;
-    let mut read = List::from_vec(Vec::with_capacity(alloc, rows.len())?);
     for place in order {
-        let before = read.len();
-        read = with_references(read, &rows.get(*place as usize).row)?;
-        if marks.has_any(after(read.as_slice(), before)) {
+        if marks.has_any(links.row(*place as usize)) {
             marks.mark(number_at(*place));
         }
     }
-    Ok(marks)
+    marks
 }

@@ -62,7 +62,7 @@ impl Rule {
 
     /// The row and the number that it names, of the first reference of all rows that breaks the
     /// rule.
-    fn first_of(self, links: &Links) -> Option<(u32, u32)>
+    fn first_of(self, links: &Links<'_>) -> Option<(u32, u32)>
         requires { length links.now ≤ 100000 }
         ensures { MatchOption result
             ((e : ℕ) → HasNo (Breaks links.now self) links.now e)
@@ -79,7 +79,7 @@ impl Rule {
 
 /// Whether each reference names an entity of the kind that is wanted. Dangling where the first that
 /// names none does, else WrongTarget where the first of the wrong kind does. It takes no memory.
-pub fn check_references(links: &Links) -> Result<(), GraphFault>
+pub fn check_references(links: &Links<'_>) -> Result<(), GraphFault>
     requires { length links.now ≤ 100000 }
     ensures present { IfOk result (λ _. ArePresent links.now) }
     ensures directed { IfOk result (λ _. AreDirected links.now) }

@@ -25,7 +25,7 @@ struct Step {
 /// where it reaches a cycle.
 fn visit(
     alloc: Global,
-    links: &Links,
+    links: &Links<'_>,
     root: u32,
     marks: &mut [Mark],
     order: &mut Vec<u32>,
@@ -76,7 +76,7 @@ fn visit(
 
 /// The places of all rows in an order in which what a row names comes before it, or the first place
 /// of a row that reaches a cycle.
-pub fn find_order(alloc: Global, links: &Links) -> Result<Result<Vec<u32>, u32>, AllocError>
+pub fn find_order(alloc: Global, links: &Links<'_>) -> Result<Result<Vec<u32>, u32>, AllocError>
     requires size { length links.now ≤ 100000 }
     requires within { (e c : ℕ) → Names (places links.now) e c → c < length links.now }
     ensures order { IfOk result (λ r. MatchResult r

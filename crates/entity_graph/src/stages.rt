@@ -32,7 +32,7 @@ fn order_found(found: Result<Vec<u32>, u32>) -> Result<Vec<u32>, GraphFault>
 
 /// The places of rows in an order in which what a row names comes before it. Cycle where there is
 /// none, Memory when out of memory.
-pub fn find_places(alloc: Global, links: &Links) -> Result<Vec<u32>, GraphFault>
+pub fn find_places(alloc: Global, links: &Links<'_>) -> Result<Vec<u32>, GraphFault>
     requires few { length links.now ≤ 100000 }
     requires present { ArePresent links.now }
     requires directed { AreDirected links.now }
@@ -44,7 +44,7 @@ pub fn find_places(alloc: Global, links: &Links) -> Result<Vec<u32>, GraphFault>
 }
 
 /// Whether no row has more levels than it may have. TooDeep where one has. It takes no memory.
-fn check_depths(links: &Links, depths: &[u32]) -> Result<(), GraphFault>
+fn check_depths(links: &Links<'_>, depths: &[u32]) -> Result<(), GraphFault>
     requires few { length links.now ≤ 100000 }
     requires present { ArePresent links.now }
     requires directed { AreDirected links.now }
@@ -62,7 +62,7 @@ fn check_depths(links: &Links, depths: &[u32]) -> Result<(), GraphFault>
 
 /// The depth of each row, none of which is more than may be. TooDeep where one is, Memory when out
 /// of memory.
-pub fn find_depths(alloc: Global, links: &Links, order: &[u32]) -> Result<Vec<u32>, GraphFault>
+pub fn find_depths(alloc: Global, links: &Links<'_>, order: &[u32]) -> Result<Vec<u32>, GraphFault>
     requires few { length links.now ≤ 100000 }
     requires present { ArePresent links.now }
     requires directed { AreDirected links.now }
@@ -80,7 +80,7 @@ pub fn find_depths(alloc: Global, links: &Links, order: &[u32]) -> Result<Vec<u3
 }
 
 /// Whether no row weighs more than it may. TooHeavy where one does. It takes no memory.
-fn check_weights(links: &Links, weights: &[u32]) -> Result<(), GraphFault>
+fn check_weights(links: &Links<'_>, weights: &[u32]) -> Result<(), GraphFault>
     requires few { length links.now ≤ 100000 }
     requires present { ArePresent links.now }
     requires directed { AreDirected links.now }
@@ -100,7 +100,7 @@ fn check_weights(links: &Links, weights: &[u32]) -> Result<(), GraphFault>
 
 /// The weight of each row, none of which is more than may be. TooHeavy where one is, Memory when
 /// out of memory.
-pub fn find_weights(alloc: Global, links: &Links, order: &[u32]) -> Result<Vec<u32>, GraphFault>
+pub fn find_weights(alloc: Global, links: &Links<'_>, order: &[u32]) -> Result<Vec<u32>, GraphFault>
     requires few { length links.now ≤ 100000 }
     requires present { ArePresent links.now }
     requires directed { AreDirected links.now }

@@ -141,7 +141,7 @@ fn number_unread(row: &Row, number: u32) -> u32
 
 impl Measure {
     /// The entry of the row at a place, from the entries of those that it names.
-    fn entry_of(self, table: &[u32], links: &Links, place: u32) -> u32
+    fn entry_of(self, table: &[u32], links: &Links<'_>, place: u32) -> u32
         requires few { length links.now ≤ 100000 }
         requires inside { place < length links.now }
         ensures { result ≡
@@ -160,7 +160,12 @@ impl Measure {
     }
 
     /// The entries of all rows, by an order in which what a row names comes before it.
-    pub fn table(self, alloc: Global, links: &Links, order: &[u32]) -> Result<Vec<u32>, AllocError>
+    pub fn table(
+        self,
+        alloc: Global,
+        links: &Links<'_>,
+        order: &[u32],
+    ) -> Result<Vec<u32>, AllocError>
         requires few { length links.now ≤ 100000 }
         requires present { ArePresent links.now }
         requires ready { IsReady self links.now }

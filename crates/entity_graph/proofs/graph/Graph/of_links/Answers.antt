@@ -1,8 +1,6 @@
-use Rattle.std.proofs.Common.{◌∙◌, ◌≤◌, List, length, sym, subst}
-use Rattle.solid_base.specs.declared.entities.Entity.{Entity}
-use Rattle.solid_base.specs.Graph.{AreSound}
+use Rattle.std.proofs.Common.{◌∙◌, sym, subst}
 use Rattle.entity_graph.specs.Tables.{AreTables}
-use Rattle.entity_graph.proofs.graph.Graph.check.Goals as goal
+use Rattle.entity_graph.proofs.graph.Graph.of_links.Goals as goal
 
 pub find_places-requires-clause-directed : goal.find_places-requires-clause-directed
 find_places-requires-clause-directed c = c.in_ok-check_references.ensures.directed
@@ -15,8 +13,8 @@ find_weights-requires-clause-directed c = c.in_ok-check_references.ensures.direc
 
 pub invariant_of-result : goal.invariant_of-result
 invariant_of-result c =
-    let tables : AreTables c.in_ok-links.links c.in_ok-order.order.items c.in_ok-depths.depths.items c.in_ok-weights.weights.items c.in_ok-opaques.opaques.items = record {
-      few = subst (λ (rows : List Entity). length rows ≤ 100000) (sym (c.in_ok-links.ensures ∙ c.in_ok-share.ensures)) c.requires;
+    let tables : AreTables c.args.links.now c.in_ok-order.order.items c.in_ok-depths.depths.items c.in_ok-weights.weights.items c.in_ok-opaques.opaques.items = record {
+      few = c.requires;
       whole = c.in_ok-order.ensures.whole;
       sound = record {
         present = c.in_ok-check_references.ensures.present;
@@ -32,15 +30,4 @@ invariant_of-result c =
       weight = c.in_ok-weights.ensures.weights;
       opaque = c.in_ok-opaques.ensures.right;
     } in
-    subst (λ rows. AreTables rows c.in_ok-order.order.items c.in_ok-depths.depths.items c.in_ok-weights.weights.items c.in_ok-opaques.opaques.items) (sym c.into_rows.ensures) tables
-
-pub returns-clause-sound : goal.returns-clause-sound
-returns-clause-sound c =
-    let sound : AreSound c.in_ok-links.links = record {
-      present = c.in_ok-check_references.ensures.present;
-      directed = c.in_ok-check_references.ensures.directed;
-      acyclic = c.in_ok-order.ensures.acyclic;
-      shallow = c.in_ok-depths.ensures.shallow;
-      light = c.in_ok-weights.ensures.light;
-    } in
-    subst AreSound (c.in_ok-links.ensures ∙ c.in_ok-share.ensures) sound
+    subst (λ rows. AreTables rows c.in_ok-order.order.items c.in_ok-depths.depths.items c.in_ok-weights.weights.items c.in_ok-opaques.opaques.items) (sym (c.of.ensures ∙ c.rows.ensures)) tables
