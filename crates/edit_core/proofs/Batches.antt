@@ -1,6 +1,8 @@
 -- What staging a change does to a batch: it stays without a number that is staged twice.
-use Rattle.std.proofs.Common.{◌≡◌, ◌≢◌, ◌⊎◌, inl, inr, ℕ, ◌==◌, nat_eq, List, [], ◌∷◌, Bool, true, false, cond, refl, ap, arith}
+use Rattle.std.proofs.Common.{◌≡◌, ◌≢◌, ◌⊎◌, inl, inr, ℕ, suc, ◌+◌, ◌==◌, nat_eq, List, [], ◌∷◌, Bool, true, false, cond, length, not, Option, Some, is_some, refl, ap, arith}
+use Rattle.std.specs.Int.{from_bool}
 use Rattle.std.specs.List.{AllByRecursion}
+use Rattle.std.specs.Map.{lookup}
 use Rattle.indexmap.specs.IndexMap.{insert_entry}
 use Rattle.edit_core.specs.declared.changes.Change.{Change}
 use Rattle.edit_core.specs.Batches.{Staged, stage, IsStaged, AreApart, IsLawfulChange, AreLawful}
@@ -46,3 +48,13 @@ stage_lawful batch n c good h = record {
   apart = stage_apart batch n c h.apart;
   changes = stage_changes batch n c good h.changes;
 }
+
+-- a change for a number that isn't staged yet makes the batch longer by one
+pub staged_size : (batch : List Staged) (n : ℕ) (c : Change)
+    → length (stage batch n c) ≡ length batch + from_bool (not (is_some (lookup (nat_eq n) batch)))
+staged_size [] n c = refl
+staged_size (s ∷ batch) n c = go (n == s.0) (lookup (nat_eq n) batch) (staged_size batch n c) where
+  go : (b : Bool) (found : Option Change) → length (stage batch n c) ≡ length batch + from_bool (not (is_some found))
+      → length (cond b ((s.0, c) ∷ batch) (s ∷ stage batch n c)) ≡ suc (length batch) + from_bool (not (is_some (cond b (Some s.1) found)))
+  go true found again = omega arith
+  go false found again = omega (arith, again)

@@ -1,5 +1,5 @@
 -- The version after an edit: its model is accepted, and its stamps are those of what changed.
-use Rattle.std.proofs.Common.{◌≡◌, inl, inr, ℕ, zero, suc, ◌+◌, ◌-◌, ◌*◌, ◌<◌, ◌≤◌, ◌/◌, ◌%◌, ◌==◌, Bool, true, false, cond, List, [], ◌∷◌, ◌++◌, length, map, Some, None, slice_get, Contains, refl, sym, ap, subst, ◌∙◌, arith, append-nil}
+use Rattle.std.proofs.Common.{◌≡◌, inl, inr, ℕ, zero, suc, ◌+◌, ◌-◌, ◌*◌, ◌<◌, ◌≤◌, ◌/◌, ◌%◌, ◌==◌, Bool, true, false, cond, List, [], ◌∷◌, ◌++◌, length, map, Some, None, slice_get, Contains, refl, sym, ap, subst, ◌∙◌, arith, add-one, append-nil}
 use Rattle.std.specs.List.{AllByRecursion}
 use Rattle.std.proofs.lemmas.Bool.{cases_lt}
 use Rattle.std.proofs.lemmas.List.Elements.{Contains-append_left, Contains-append_right}
@@ -18,7 +18,7 @@ use Rattle.entity_graph.specs.Stamps.{IsStamp}
 use Rattle.edit_core.specs.declared.table.Frame.{Frame}
 use Rattle.edit_core.specs.Batches.{Staged}
 use Rattle.edit_core.specs.Edits.{AreAfter, MayBegin}
-use Rattle.edit_core.specs.Placing.{IsReady}
+use Rattle.edit_core.specs.Placing.{IsReady, AreNextStamps}
 use Rattle.edit_core.specs.Versions.{numbers_from, changed_numbers, version_of, IsNext}
 use Rattle.edit_core.proofs.Placing.{standing, has_odd, at_odd}
 use Rattle.edit_core.proofs.RowsAfter.{few_after}
@@ -124,12 +124,18 @@ pub accepted_after : (n m : ℕ) (frame : Frame) (rows after : List Entity) (sta
 accepted_after n m frame rows after stamps others batch h made ready sound lines =
     accepted_rows (version_of n frame rows stamps).model after batch h made ready sound lines
 
-pub next_is : (n : ℕ) (frame : Frame) (rows after : List Entity) (stamps others changed : List ℕ) (batch : List Staged) → MayBegin n batch → AreAfter rows batch after → AreSound after
-    → lines_of frame.comma frame.semi after ≤ most_lines → changed ≡ changed_numbers batch (length rows) (length after) → length others ≡ length after
-    → ((e s : ℕ) → at_number others e ≡ Some s → IsStamp after changed (suc n) stamps e s) → IsNext (version_of n frame rows stamps) batch (version_of (suc n) frame after others)
-next_is n frame rows after stamps others changed batch may made sound lines is one_each renewed = record {
+pub next_stamps : (n : ℕ) (frame : Frame) (rows after : List Entity) (stamps others changed : List ℕ) (batch : List Staged) → changed ≡ changed_numbers batch (length rows) (length after) → length others ≡ length after
+    → ((e s : ℕ) → at_number others e ≡ Some s → IsStamp after changed (n + 1) stamps e s) → AreNextStamps (version_of n frame rows stamps) batch after others
+next_stamps n frame rows after stamps others changed batch is one_each renewed = record {
+  one_each = one_each;
+  each = λ e s at. subst (λ (v : ℕ). IsStamp after (changed_numbers batch (length rows) (length after)) v stamps e s) (add-one n) (subst (λ (ns : List ℕ). IsStamp after ns (n + 1) stamps e s) is (renewed e s at));
+}
+
+pub next_is : (n : ℕ) (frame : Frame) (rows after : List Entity) (stamps others : List ℕ) (batch : List Staged) → MayBegin n batch → AreAfter rows batch after → AreSound after
+    → lines_of frame.comma frame.semi after ≤ most_lines → AreNextStamps (version_of n frame rows stamps) batch after others → IsNext (version_of n frame rows stamps) batch (version_of (suc n) frame after others)
+next_is n frame rows after stamps others batch may made sound lines next = record {
   number = refl;
   model = record { may = may; rows = made; sound = sound; few = lines; start = refl; comma = refl; semi = refl; global = refl };
-  one_each = one_each;
-  stamps = λ e s at. subst (λ (ns : List ℕ). IsStamp after ns (suc n) stamps e s) is (renewed e s at);
+  one_each = next.one_each;
+  stamps = next.each;
 }

@@ -1,6 +1,6 @@
 -- What the code's shortcuts need: rows that are made one change after the other.
 use Rattle.std.specs.Prelude.{◌≡◌, ◌⊎◌, ℕ, zero, suc, ◌+◌, ◌-◌, ◌<◌, ◌≤◌, min, List, [], ◌∷◌}
-use Rattle.std.specs.Prelude.{◌++◌, length, replicate, Bool, false}
+use Rattle.std.specs.Prelude.{◌++◌, length, replicate, Bool, false, Some}
 use Rattle.solid_base.specs.declared.entities.Entity.{Entity}
 use Rattle.solid_base.specs.Ranges.{most_whole}
 use Rattle.iges_parameters.specs.Accepted.{IsAcceptedEntity, IsWritable, most_lines}
@@ -11,13 +11,15 @@ use Rattle.solid_base.specs.declared.entities.RowText.{RowText}
 use Rattle.edit_core.specs.declared.faults.EditFault.{EditFault}
 use Rattle.edit_core.specs.declared.faults.EditFault.TheVariants as fault
 use Rattle.std.specs.List.{AllByRecursion}
-use Rattle.solid_base.specs.References.{HasNumber, Refers}
+use Rattle.solid_base.specs.References.{HasNumber, at_number, Refers}
 use Rattle.entity_graph.specs.declared.graph_faults.GraphFault.{GraphFault}
 use Rattle.entity_graph.specs.FirstFaults.{IsFault}
 use Rattle.entity_graph.specs.Marks.{has_mark}
+use Rattle.entity_graph.specs.Stamps.{IsStamp}
 use Rattle.edit_core.specs.Batches.{Staged}
 use Rattle.edit_core.specs.EditFaults.{of_graph}
 use Rattle.edit_core.specs.Edits.{null_entity, edit_comma, edit_semi, IsUnused, IsFirstInUse}
+use Rattle.edit_core.specs.Versions.{Version, changed_numbers}
 
 -- rows with null ones after them, up to this many
 abbrev pub filled : List Entity → ℕ → List Entity
@@ -75,3 +77,13 @@ pub data IsReferenceFault (batch : List Staged) (after : List Entity) (f : EditF
       → IsReferenceFault batch after f
   broken : (g : GraphFault) → f ≡ of_graph g → AllByRecursion (IsUnused after) batch
       → IsFault after g → IsReferenceFault batch after f
+
+-- ---- the stamps after a batch
+
+-- the stamps of the version that a batch makes of another, by its rows
+pub record AreNextStamps (version : Version) (batch : List Staged) (rows : List Entity)
+    (stamps : List ℕ) : Type 0 where
+  pub one_each : length stamps ≡ length rows
+  pub each : (e s : ℕ) → at_number stamps e ≡ Some s → IsStamp rows
+      (changed_numbers batch (length version.model.rows) (length rows))
+      (suc version.number) version.stamps e s

@@ -1,5 +1,6 @@
 ghost use Rattle.std.specs.Prelude.{◌≡◌, ◌<◌, ◌≤◌, [], length, slice_get, Some, OnOk, OnErr};
 ghost use Rattle.std.specs.List.{AllByRecursion};
+ghost use Rattle.edit_core.specs.declared.changes.Change.{Change};
 ghost use Rattle.edit_core.specs.declared.changes.Change.TheVariants as change;
 ghost use Rattle.edit_core.specs.Batches.{stage, IsStageable, IsLawfulChange, AreApart};
 
@@ -88,6 +89,13 @@ impl Batch {
         self.changes.len()
     }
 
+    /// How many numbers are staged after a change for a number.
+    pub fn len_with(&self, de: u32) -> usize
+        ensures { (c : Change) → result ≡ length (stage self.now de c) }
+    {
+        self.changes.len() + usize::from(!self.changes.contains_key(&de))
+    }
+
     /// The number and the change at a place, counted from 0.
     pub fn get(&self, at: usize) -> (u32, &Change)
         requires { at < length self.now }
@@ -126,12 +134,15 @@ mod tests {
     fn keeps_the_place_of_a_number_that_is_staged_again(rt: HostRuntime) -> Result<(), AllocError> {
         let alloc = rt.alloc();
         let mut batch = Batch::new(alloc);
+        assert_eq!(rt; batch.len_with(9), 1);
         batch.add(9, sphere(alloc, 0))?;
         batch.drop_row(3)?;
         batch.replace(9, sphere(alloc, 7))?;
         batch.replace(5, sphere(alloc, 1))?;
         batch.drop_row(5)?;
         assert_eq!(rt; batch.len(), 3);
+        assert_eq!(rt; batch.len_with(5), 3);
+        assert_eq!(rt; batch.len_with(7), 4);
         let wanted = [
             (9, Change::Replace(sphere(alloc, 7))),
             (3, Change::Drop),

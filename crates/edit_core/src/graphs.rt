@@ -1,10 +1,11 @@
-ghost use Rattle.std.specs.Prelude.{◌≡◌, ◌≤◌, ◌↔◌, length, Contains};
+ghost use Rattle.std.specs.Prelude.{◌≡◌, ◌≤◌, ◌↔◌, ℕ, length, Contains, Some};
 ghost use Rattle.std.specs.Prelude.{IsTrue, IfOk, IfErr, MatchOption};
 ghost use Rattle.std.specs.List.{AllByRecursion};
 ghost use Rattle.solid_base.specs.Graph.{AreSound};
-ghost use Rattle.solid_base.specs.References.{references};
+ghost use Rattle.solid_base.specs.References.{HasNumber, at_number, references};
 ghost use Rattle.entity_graph.specs.GraphFaults as graphs;
 ghost use Rattle.entity_graph.specs.FirstFaults.{IsFault};
+ghost use Rattle.entity_graph.specs.Stamps.{IsStamp};
 ghost use Rattle.edit_core.specs.EditFaults.{IsOfText, IsOuter};
 ghost use Rattle.edit_core.specs.Edits.{IsUnused, IsFirstInUse};
 ghost use Rattle.edit_core.specs.Placing.{IsFirstNaming, NoneNames, AreNamed};
@@ -13,8 +14,8 @@ ghost use Rattle.edit_core.specs.Placing.{IsReferenceFault};
 use crate::batch::Batch;
 use crate::changes::Change;
 use crate::faults::EditFault;
-use entity_graph::{Graph, GraphFault, Marks};
-use solid_base::{List, Row, Rows, reference_list, with_references};
+use entity_graph::{Graph, GraphFault, Marks, Stamps};
+use solid_base::{List, Numbers, Row, Rows, reference_list, with_references};
 use std::alloc::{AllocError, Global};
 
 /// Whether a row names a number.
@@ -114,18 +115,31 @@ fn reference_fault(alloc: Global, rows: &Rows, batch: &Batch, fault: GraphFault)
     }
 }
 
-/// The graph of the rows after a batch. InUse where a dropped number is still named, else the first
-/// fault of the references.
-pub fn graph_after(alloc: Global, rows: &Rows, batch: &Batch) -> Result<Graph, EditFault>
-    requires { length rows.now ≤ 100000 }
-    ensures graph { IfOk result (λ graph. graph ≡ rows.now) }
+/// The graph of the rows after a batch and their stamps, from the old ones and the numbers that
+/// the batch changes. InUse where a dropped number is still named, else the first fault of the
+/// references.
+pub fn graph_after(
+    alloc: Global,
+    rows: &Rows,
+    batch: &Batch,
+    old: &Stamps,
+    changed: &Numbers,
+    version: u64,
+) -> Result<(Graph, Stamps), EditFault>
+    requires few { length rows.now ≤ 100000 }
+    requires known { (e : ℕ) →
+        HasNumber rows.now e → ¬ Contains changed.now e → HasNumber old.now e }
+    ensures graph { IfOk result (λ made. made.0 ≡ rows.now) }
     ensures sound { IfOk result (λ _. AreSound rows.now) }
+    ensures one_each { IfOk result (λ made. length made.1 ≡ length rows.now) }
+    ensures stamps { IfOk result (λ made. (e s : ℕ) → at_number made.1 e ≡ Some s →
+        IsStamp rows.now changed.now version old.now e s) }
     ensures first_fault { IfErr result (λ fault. IsOfText fault →
         IsReferenceFault batch.now rows.now fault) }
     ensures outer { IfErr result IsOuter }
 {
-    match Graph::check(alloc, rows) {
-        Ok(graph) => Ok(graph),
+    match Graph::check_stamped(alloc, rows, old, changed, version) {
+        Ok(made) => Ok(made),
         Err(fault) => Err(reference_fault(alloc, rows, batch, fault)),
     }
 }

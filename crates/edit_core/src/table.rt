@@ -4,10 +4,10 @@ ghost use Rattle.std.specs.Arc.{arc_value};
 ghost use Rattle.solid_base.specs.References.{HasNumber, at_number};
 ghost use Rattle.solid_base.specs.declared.entities.Model.{Model as model};
 ghost use Rattle.solid_base.specs.Graph.{AreSound};
-ghost use Rattle.iges_parameters.specs.Accepted.{IsAccepted, lines_of, most_lines};
+ghost use Rattle.iges_parameters.specs.Accepted.{IsAccepted, lines_of, most_entities, most_lines};
 ghost use Rattle.edit_core.specs.EditFaults.{IsOfText, IsOuter};
 ghost use Rattle.edit_core.specs.Edits.{MayBegin, AreAfter, IsRefused, most_versions};
-ghost use Rattle.edit_core.specs.Placing.{IsReady};
+ghost use Rattle.edit_core.specs.Placing.{IsReady, IsReferenceFault, AreNextStamps};
 ghost use Rattle.edit_core.specs.Versions.{IsOpening, IsNext};
 
 use crate::batch::Batch;
@@ -37,7 +37,7 @@ pub struct Frame {
 }
 
 /// A version of a model. Contracts see its number, its model and the stamps of its rows.
-#[derive(Debug, Drop)]
+#[derive(Drop)]
 pub struct Table {
     version: u64,
     frame: Arc<Frame>,
@@ -192,13 +192,35 @@ impl Table {
         self.lines
     }
 
-    /// The table of the next version, from the rows after a batch, their graph and their lines.
-    fn next(
+    /// The graph of the rows after a batch, and the stamps of the next version.
+    fn graph_after(
         &self,
         alloc: Global,
+        rows: &Rows,
+        batch: &Batch,
+    ) -> Result<(Graph, Stamps), EditFault>
+        requires begins { MayBegin self.now.number batch.now }
+        requires few { length rows.now ≤ most_entities }
+        ensures graph { IfOk result (λ made. made.0 ≡ rows.now) }
+        ensures sound { IfOk result (λ _. AreSound rows.now) }
+        ensures stamps { IfOk result (λ made. AreNextStamps self.now batch.now rows.now made.1) }
+        ensures first_fault { IfErr result (λ fault. IsOfText fault →
+            IsReferenceFault batch.now rows.now fault) }
+        ensures outer { IfErr result IsOuter }
+    {
+        let changed = changed_numbers(alloc, batch, self.rows.len(), rows.len())?;
+        let version = self.version + 1;
+        graph_after(alloc, rows, batch, &self.stamps, &changed, version)
+    }
+
+    /// The table of the next version, from the rows after a batch, their graph, the stamps and the
+    /// lines.
+    fn next(
+        &self,
         batch: &Batch,
         rows: Rows,
         graph: Graph,
+        stamps: Stamps,
         lines: u64,
     ) -> Result<Table, AllocError>
         requires begins { MayBegin self.now.number batch.now }
@@ -206,12 +228,11 @@ impl Table {
         requires ready { AllByRecursion IsReady rows }
         requires sound { AreSound rows }
         requires graph { graph ≡ rows }
+        requires stamps { AreNextStamps self.now batch.now rows stamps }
         requires lines { lines ≡ lines_of self.now.model.comma self.now.model.semi rows }
         requires few { lines ≤ most_lines }
         ensures next { IfOk result (IsNext self.now batch.now) }
     {
-        let changed = changed_numbers(alloc, batch, self.rows.len(), rows.len())?;
-        let stamps = graph.stamps(alloc, &rows, &self.stamps, &changed, self.version + 1)?;
         Ok(Table {
             version: self.version + 1,
             frame: shared_frame(&self.frame)?,
@@ -238,8 +259,8 @@ impl Table {
         self.obeys();
         check_begin(self.version(), batch)?;
         let (rows, lines) = rows_after(alloc, self.frame(), self.rows(), self.lines(), batch)?;
-        let graph = graph_after(alloc, &rows, batch)?;
+        let (graph, stamps) = self.graph_after(alloc, &rows, batch)?;
         check_lines(lines)?;
-        Ok(self.next(alloc, batch, rows, graph, lines)?)
+        Ok(self.next(batch, rows, graph, stamps, lines)?)
     }
 }

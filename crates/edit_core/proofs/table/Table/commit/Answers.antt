@@ -20,8 +20,11 @@ returns-in_err-rows-clause-first_fault c =
     let first = rw c.rows.ensures at c.in_err-rows.ensures.first_fault in
     rw (p.1, p.2) (λ t. change_refused c.args.self.now.model c.args.self.now.number c.args.batch.now c.in_err-rows.field-0.0 may (first t))
 
-pub graph_after-requires : goal.graph_after-requires
-graph_after-requires c =
+pub graph_after-requires-clause-begins : goal.graph_after-requires-clause-begins
+graph_after-requires-clause-begins c = rw c.version.ensures at c.in_ok-check_begin.ensures.begins
+
+pub graph_after-requires-clause-few : goal.graph_after-requires-clause-few
+graph_after-requires-clause-few c =
     let made = rw c.rows.ensures at c.in_ok-rows.ensures.after in
     few_after c.args.self.now.model.rows c.in_ok-rows.rows c.args.batch.now c.obeys.ensures.accepted.few_entities made
 
