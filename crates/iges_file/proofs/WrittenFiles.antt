@@ -1,5 +1,5 @@
 -- The file that is written of an accepted model is in the fixed form, and is read as that model.
-use Rattle.std.proofs.Common.{◌≡◌, ◌≢◌, ℕ, ◌-◌, ◌<◌, ◌≤◌, List, [], ◌∷◌, ◌++◌, length, take, drop, replicate, refl, sym, ap, subst, ◌∙◌, arith, inl, append-nil, length-append}
+use Rattle.std.proofs.Common.{◌≡◌, ◌≢◌, ℕ, ◌+◌, ◌-◌, ◌*◌, ◌<◌, ◌≤◌, List, [], ◌∷◌, ◌++◌, length, take, drop, replicate, refl, sym, ap, subst, ◌∙◌, arith, inl, append-nil, append_assoc, length-append}
 use Rattle.std.specs.List.{AllByRecursion, concat}
 use Rattle.std.proofs.lemmas.List.{length-replicate}
 use Rattle.solid_base.specs.declared.entities.Entity.{Entity}
@@ -21,7 +21,7 @@ use Rattle.iges_write.proofs.EntitySteps.{records_count}
 use Rattle.iges_write.proofs.FileParts.{entries_count, few_globals, few_parameters, few_entries, sections_joined}
 use Rattle.iges_file.specs.Files.{Reads}
 use Rattle.iges_file.proofs.WrittenNumbers.{right_width, right_in_line, blanks_in_line}
-use Rattle.iges_file.proofs.WrittenCards.{IsText, face, kept_of, kept_count, are_cards, kept_whole, is_group, terminate_line, terminate_numbered}
+use Rattle.iges_file.proofs.WrittenCards.{IsText, face, face_width, card_is, filled_whole, kept_of, kept_count, are_cards, kept_whole, is_group, terminate_line, terminate_numbered}
 use Rattle.iges_file.proofs.WrittenGlobals.{is_global, global_texts, some_global}
 use Rattle.iges_file.proofs.WrittenEntries.{AreParts, five_parts, pairs_of, entry_texts, are_pairs, text_few}
 use Rattle.iges_file.proofs.WrittenRecords.{all_records, records_size, entities_back, records_texts, records_kept, all_written, from_the_first}
@@ -126,9 +126,9 @@ has_groups a b c d sa sb sc sd =
       parameter = is_group section.Parameter d (take 8 (drop 24 columns)) sd parts.fourth;
     }
 
-is_terminate : (a b c d : ℕ) → a ≤ 9999999 → b ≤ 9999999 → c ≤ 9999999 → d ≤ 9999999
-    → IsTerminate (record { start = a; global = b; directory = c; parameter = d }) (card 84 1 (groups a b c d)) []
-is_terminate a b c d sa sb sc sd =
+is_terminate : (a b c d : ℕ) (after : List ℕ) → a ≤ 9999999 → b ≤ 9999999 → c ≤ 9999999 → d ≤ 9999999
+    → IsTerminate (record { start = a; global = b; directory = c; parameter = d }) (card 84 1 (groups a b c d)) after
+is_terminate a b c d after sa sb sc sd =
     let text = groups_text a b c d sa sb sc sd in
     record {
       line = face 84 1 (filled 72 (groups a b c d));
@@ -153,25 +153,25 @@ unfolding all_records
 directory_first comma semi [] some = absurd (omega arith)
 directory_first comma semi (e ∷ es) some = omega (arith, kept_count 68 80 1 (entry_lines comma semi [] (e ∷ es)), entries_count comma semi [] (e ∷ es))
 
-is_fixed_form : (model : Model) → IsAccepted model → IsFixedForm (canonical_text model) (cards_of model)
-is_fixed_form model h =
+is_fixed_form : (model : Model) (after : List ℕ) → IsAccepted model → IsFixedForm (canonical_text model ++ after) (cards_of model)
+is_fixed_form model after h =
     let sections = sections_text model in
     let last = card 84 1 (groups_of model) in
     let few_d = few_entries model h in
     let few_p = few_parameters model h in
-    let told = is_terminate (length model.start) (length (global_lines model)) (length (directory_lines model)) (length (parameter_lines model)) h.few_start (few_globals model h) (omega (arith, few_d)) (omega (arith, few_p)) in
+    let told = is_terminate (length model.start) (length (global_lines model)) (length (directory_lines model)) (length (parameter_lines model)) after h.few_start (few_globals model h) (omega (arith, few_d)) (omega (arith, few_p)) in
     record {
       globals = global_lines model;
       sections_text = sections;
       terminate_text = last;
-      rest = [];
+      rest = after;
       sections = are_sections model h;
       some_start = h.some_start;
       some_global = some_global model;
       directory_first = directory_first model.comma model.semi model.rows;
       joined = refl;
-      terminate = subst (λ (counts : Counts). IsTerminate counts last []) (same_counts model) told;
-      spelt = sections_joined model ∙ ap (λ (x : List ℕ). sections ++ x) (sym (append-nil last));
+      terminate = subst (λ (counts : Counts). IsTerminate counts last after) (same_counts model) told;
+      spelt = ap (λ (x : List ℕ). x ++ after) (sections_joined model) ∙ append_assoc sections last after;
       end = ap (length {A = ℕ}) (sections_joined model) ∙ length-append sections last;
     }
 
@@ -187,14 +187,15 @@ is_directory model h =
       text = omega (arith, text_few c s [] model.rows, h.few_lines);
     }
 
-pub read_back : (model : Model) → IsAccepted model → Reads (canonical_text model) model (length (canonical_text model))
-read_back model h =
+-- whatever stands after it
+pub read_before : (model : Model) (after : List ℕ) → IsAccepted model → Reads (canonical_text model ++ after) model (length (canonical_text model))
+read_before model after h =
     let c = model.comma in
     let s = model.semi in
     record {
       cards = cards_of model;
       pairs = pairs_of c s [] model.rows;
-      form = is_fixed_form model h;
+      form = is_fixed_form model after h;
       place = refl;
       start = refl;
       globals = is_global model h;
@@ -203,3 +204,51 @@ read_back model h =
       few = h.few_lines;
       sound = h.references;
     }
+
+pub read_back : (model : Model) → IsAccepted model → Reads (canonical_text model) model (length (canonical_text model))
+read_back model h = subst (λ (text : List ℕ). Reads text model (length (canonical_text model))) (append-nil (canonical_text model)) (read_before model [] h)
+
+-- ---- how long the file is
+
+card_size : (letter n : ℕ) (columns : List ℕ) → length columns ≡ 72 → n ≤ 9999999 → length (card letter n columns) ≡ 81
+card_size letter n columns wide small =
+    let whole = filled_whole columns wide in
+    let text = ap (length {A = ℕ}) (card_is letter n columns ∙ ap (λ (x : List ℕ). face letter n x ++ 10 ∷ []) whole) in
+    let joined = length-append (face letter n columns) (10 ∷ []) in
+    let width = face_width letter n columns wide small in
+    omega (arith, text, joined, width)
+
+cards_size : (letter n : ℕ) (lines : List (List ℕ)) → AllByRecursion IsText lines → n + length lines ≤ 10000000 → length (concat (cards letter n lines)) ≡ 81 * length lines
+unfolding cards
+cards_size letter n [] h few = refl
+cards_size letter n (columns ∷ lines) h few =
+    let joined = length-append (card letter n columns) (concat (cards letter (n + 1) lines)) in
+    let first = card_size letter n columns h.0.wide (omega (arith, few)) in
+    let more = cards_size letter (n + 1) lines h.1 (omega (arith, few)) in
+    omega (arith, joined, first, more)
+
+-- each line takes 81 bytes
+pub written_size : (model : Model) → IsAccepted model
+    → length (canonical_text model) ≡ 81 * (length model.start + length (global_lines model) + length (directory_lines model) + length (parameter_lines model) + 1)
+written_size model h =
+    let few_s = h.few_start in
+    let few_g = few_globals model h in
+    let few_d = few_entries model h in
+    let few_p = few_parameters model h in
+    let start = concat (cards 83 1 model.start) in
+    let global = concat (cards 71 1 (global_lines model)) in
+    let directory = concat (cards 68 1 (directory_lines model)) in
+    let parameter = concat (cards 80 1 (parameter_lines model)) in
+    let last = card 84 1 (groups_of model) in
+    let a = cards_size 83 1 model.start (start_texts model.start h.start_lines) (omega (arith, few_s)) in
+    let b = cards_size 71 1 (global_lines model) (global_texts model h) (omega (arith, few_g)) in
+    let c = cards_size 68 1 (directory_lines model) (directory_texts model h) (omega (arith, few_d)) in
+    let d = cards_size 80 1 (parameter_lines model) (parameter_texts model h) (omega (arith, few_p)) in
+    let text = groups_text (length model.start) (length (global_lines model)) (length (directory_lines model)) (length (parameter_lines model)) few_s few_g (omega (arith, few_d)) (omega (arith, few_p)) in
+    let e = ap (length {A = ℕ}) (card_is 84 1 (groups_of model)) ∙ length-append (face 84 1 (filled 72 (groups_of model))) (10 ∷ []) in
+    let width = face_width 84 1 (filled 72 (groups_of model)) text.wide (omega arith) in
+    let whole = ap (length {A = ℕ}) (sections_joined model) ∙ length-append (sections_text model) last in
+    let one = length-append ((start ++ global) ++ directory) parameter in
+    let two = length-append (start ++ global) directory in
+    let three = length-append start global in
+    omega (arith, a, b, c, d, e, width, whole, one, two, three)

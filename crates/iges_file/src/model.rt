@@ -12,7 +12,7 @@ use solid_base::Model;
 use std::alloc::Global;
 
 /// What a file is read as.
-#[derive(Debug, Drop)]
+#[derive(Drop)]
 pub struct ReadFile {
     /// The model.
     pub model: Model,
