@@ -1,4 +1,5 @@
 ghost use Rattle.std.specs.Prelude.{◌≡◌, ◌++◌, IfOk, OnOk, OnErr};
+ghost use mathlib.Core.List.{IsPrefix};
 ghost use Rattle.script_lines.specs.Faults.{line_fault_number, line_fault_words};
 
 use solid_base::{Bytes, push_decimal};
@@ -33,9 +34,10 @@ impl LineFault {
     }
 
     /// Writes the words that are printed after a text: the fault's name, and its column. AllocError
-    /// when out of memory; the text then has some of the words at most.
+    /// when out of memory; what stood in the text then still stands in front of it.
     pub fn push_words(&self, words: &mut Bytes) -> Result<(), AllocError>
-        ensures { OnOk result (words.new ≡ words.old ++ line_fault_words self.now) }
+        ensures ok { OnOk result (words.new ≡ words.old ++ line_fault_words self.now) }
+        ensures front { IsPrefix words.old words.new }
     {
         match self {
             LineFault::BadLine(column) => push_column(words, *column),
@@ -55,7 +57,9 @@ impl LineFault {
 }
 
 fn push_column(words: &mut Bytes, column: u32) -> Result<(), AllocError>
-    ensures { OnOk result (words.new ≡ words.old ++ line_fault_words (LineFault.BadLine column)) }
+    ensures ok { OnOk result (words.new ≡
+        words.old ++ line_fault_words (LineFault.BadLine column)) }
+    ensures front { IsPrefix words.old words.new }
 {
     words.extend_from_slice(b"BadLine ")?;
     push_decimal(words, column)
