@@ -29,3 +29,6 @@ pub mod UseKeys
 pub mod RunLaws
 pub mod RunSteps
 pub mod AskedAnswers
+pub mod DoneRounds
+pub mod RoundsEnd
+pub mod FrugalSteps

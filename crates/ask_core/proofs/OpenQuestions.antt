@@ -1,5 +1,5 @@
 -- What holds of a question about cells that isn't refused.
-use Rattle.std.proofs.Common.{◌≡◌, ◌⊎◌, inl, inr, ℕ, zero, suc, ◌*◌, ◌^◌, ◌<◌, ◌≤◌, Bool, true, false, cond, nat_le, List, [], ◌∷◌, MatchOption, Option, Some, None, refl, sym, ap, subst, ◌∙◌, arith}
+use Rattle.std.proofs.Common.{◌≡◌, ◌⊎◌, inl, inr, ℕ, zero, suc, ◌*◌, ◌^◌, ◌<◌, ◌≤◌, Bool, true, false, cond, nat_le, List, [], ◌∷◌, MatchOption, Option, Some, None, IsSome, IsTrue, refl, sym, ap, subst, ◌∙◌, arith}
 use Rattle.solid_base.specs.declared.entities.Entity.{Entity}
 use Rattle.solid_base.specs.declared.geometry.Cube.{Cube}
 use Rattle.solid_base.specs.declared.solids.Row.{Row}
@@ -7,6 +7,7 @@ use Rattle.solid_base.specs.declared.solids.Row.TheVariants as row
 use Rattle.solid_base.specs.Graph.{weight_of}
 use Rattle.solid_base.specs.References.{row_at, here}
 use Rattle.entity_graph.specs.Opaque.{IsFirstOpaque, ReachesOpaque, IsUnread}
+use Rattle.entity_graph.proofs.FirstOpaques.{first_opaque_once}
 use Rattle.solid_eval.specs.Solids.{IsSolidRow}
 use Rattle.solid_eval.proofs.Interior.{power-positive}
 use Rattle.solid_questions.specs.declared.questions.Question.{Question}
@@ -17,7 +18,7 @@ use Rattle.solid_questions.specs.Questions.{IsLawful, IsLawfulSection, IsOfRows,
 use Rattle.solid_questions.specs.QuestionCells.{cell_count, cells_of_grid, cells_of_section}
 use Rattle.solid_questions.specs.Refusals.{refusal_of, cells_refusal, first_refusal, no_entity, not_solid, unsupported, too_large, most_evaluations}
 use Rattle.ask_core.specs.Answers.{refusal_on}
-use Rattle.ask_core.specs.Books.{AsksCells, IsNotRefused}
+use Rattle.ask_core.specs.Books.{AsksCells, IsAtOnce, IsNotRefused}
 use Rattle.ask_core.proofs.Refused.{Few, unrefused_few}
 
 pub asks_rows : (q : Question) → AsksCells q → IsOfRows q
@@ -115,3 +116,13 @@ open_count rows q unrefused = go (cell_count q) refl (open_few rows q unrefused)
   go : (count : Option ℕ) → cell_count q ≡ count → Few (weight_of rows (entity_of q)) count → (n : ℕ) × (cell_count q ≡ Some n) × (n * weight_of rows (entity_of q) ≤ most_evaluations)
   go None is few = absurd few
   go (Some n) is few = (n, is, few)
+
+-- ---- it isn't answered at once
+
+pub open_not_at_once : (rows : List Entity) (q : Question) → AsksCells q → IsNotRefused rows q → ¬ IsAtOnce rows q
+open_not_at_once rows q cells unrefused (inl none) = none cells
+open_not_at_once rows q cells unrefused (inr refused) =
+    let same = first_opaque_once rows (entity_of q) refused.unread unrefused.unread refused.first unrefused.first in
+    let none : refusal_on rows q refused.unread ≡ None = subst (λ n. refusal_on rows q n ≡ None) (sym same) unrefused.none in
+    let some : IsTrue false = subst (λ (o : Option Refusal). IsSome o) none refused.refusal in
+    absurd (cc)

@@ -2,14 +2,15 @@
 use Rattle.std.proofs.Common.{◌≡◌, ◌≢◌, ◌⊎◌, inl, inr, ℕ, suc, ◌<◌, ◌≤◌, List, [], ◌∷◌, ◌++◌, length, Bool, true, false, Option, Some, None, MatchOption, Result, Ok, Err, IfOk, refl, ap, subst, ◌∙◌, arith, length-append}
 use Rattle.std.proofs.lemmas.Bool.{cases_lt}
 use Rattle.solid_base.specs.declared.replies.Reply.{Reply}
+use Rattle.memo_graph.specs.Memos.{Entry}
 use Rattle.edit_core.specs.declared.faults.EditFault.{EditFault}
 use Rattle.edit_core.specs.Edits.{IsRefused}
 use Rattle.edit_core.specs.Versions.{LogEntry, IsNext}
 use Rattle.ask_core.specs.Answers.{IsAnswer}
-use Rattle.ask_core.specs.Books.{BookFacts, IsBook}
+use Rattle.ask_core.specs.Books.{BookFacts, IsBook, memo_capacity}
 use Rattle.ask_core.specs.Places.{IsFilled, IsNewestReply, IsCommitted, goes_on, ends, cancelled, held, made, refused}
 use Rattle.ask_core.specs.Replies.{with_version, committed_reply, refused_reply, cancelled_reply}
-use Rattle.ask_core.specs.Runs.{RunFacts, IsRunning, left_of, settled}
+use Rattle.ask_core.specs.Runs.{RunFacts, IsRunning, kept_all, left_of, settled}
 use Rattle.ask_core.specs.declared.runs.Stage.TheVariants as stage
 
 pub if_ok_then : {A E : Type 0} (r : Result A E) (P Q : A → Type 0) → ((a : A) → P a → Q a) → IfOk r P → IfOk r Q
@@ -54,14 +55,16 @@ refused_if_ok old new entry v f (Ok reply) is first same words =
 refused_if_ok old new entry v f (Err e) is first same words = tt
 
 -- a fill after which no use is left
-pub ends_with : (old : Option RunFacts) (run after : RunFacts) (reply : Reply) → old ≡ Some run → run.stage ≡ stage.Worked → IsRunning run → after ≡ settled run
-    → reply.version ≡ Some (length after.log) → IsAnswer after.table.model after.question reply.body → IsFilled old None (Some reply)
-ends_with old run after reply is worked running same version answer =
-    ends run reply.body is worked running refl (subst (λ (r : RunFacts). IsAnswer r.table.model r.question reply.body) same answer)
-    (ap Some (named reply (length run.log) (subst (λ (r : RunFacts). reply.version ≡ Some (length r.log)) same version)))
+pub ends_with : (old : Option RunFacts) (run after : RunFacts) (reply : Reply) (entries kept : List Entry) → old ≡ Some run → run.stage ≡ stage.Worked → IsRunning run → after ≡ settled run
+    → left_of after ≡ 0 → reply.version ≡ Some (length after.log) → IsAnswer after.table.model after.question reply.body
+    → kept ≡ kept_all memo_capacity run.fresh entries → IsFilled old None (Some reply) entries kept
+ends_with old run after reply entries kept is worked running same none_left version answer memo =
+    ends run reply.body is worked running (subst (λ (r : RunFacts). left_of r ≡ 0) same none_left) refl
+    (subst (λ (r : RunFacts). IsAnswer r.table.model r.question reply.body) same answer)
+    (ap Some (named reply (length run.log) (subst (λ (r : RunFacts). reply.version ≡ Some (length r.log)) same version))) memo
 
 -- a fill after which some are
-pub goes_on_with : (old : Option RunFacts) (run after : RunFacts) → old ≡ Some run → run.stage ≡ stage.Worked → IsRunning run → after ≡ settled run
-    → 0 < left_of after → IsFilled old (Some after) None
-goes_on_with old run after is worked running same some =
-    goes_on run is worked running (subst (λ (r : RunFacts). 0 < left_of r) same some) (ap Some same) refl
+pub goes_on_with : (old : Option RunFacts) (run after : RunFacts) (entries kept : List Entry) → old ≡ Some run → run.stage ≡ stage.Worked → IsRunning run → after ≡ settled run
+    → 0 < left_of after → kept ≡ kept_all memo_capacity run.fresh entries → IsFilled old (Some after) None entries kept
+goes_on_with old run after entries kept is worked running same some memo =
+    goes_on run is worked running (subst (λ (r : RunFacts). 0 < left_of r) same some) (ap Some same) refl memo

@@ -1,18 +1,11 @@
 -- What stands for a state of the machine, and what the step of each event makes of it.
-use Rattle.std.proofs.Common.{◌≡◌, ◌≢◌, inl, inr, ℕ, zero, suc, ◌*◌, ◌<◌, ◌≤◌, ◌==◌, Bool, true, false, List, [], ◌∷◌, ◌++◌, length, flat_map, get_or, set, codes, Option, Some, None, is_some, refl, sym, ap, subst, ◌∙◌, arith, length-append, length-set, mul-le-mul}
+use Rattle.std.proofs.Common.{◌≡◌, ◌≢◌, inl, inr, ℕ, zero, suc, ◌*◌, ◌<◌, ◌≤◌, ◌==◌, Bool, true, false, List, [], ◌∷◌, ◌++◌, length, get_or, set, codes, Option, Some, None, is_some, refl, sym, ap, subst, ◌∙◌, arith, length-append, length-set}
 use Rattle.std.proofs.lemmas.List.{get_or-set_same, get_or-set_other, set-get_or}
 use Rattle.solid_base.specs.declared.entities.Entity.{Entity}
-use Rattle.solid_base.specs.declared.geometry.Cube.{Cube}
 use Rattle.solid_base.specs.declared.entities.Model.{Model}
 use Rattle.solid_base.specs.declared.replies.Reply.{Reply}
 use Rattle.solid_base.specs.Graph.{weight_of}
 use Rattle.solid_base.proofs.Slices.{prefix_trans, prefix_self}
-use Rattle.fixed_enclosure.specs.Places.{spans_of}
-use Rattle.fixed_enclosure.specs.Spans.{box_of}
-use Rattle.solid_eval.specs.Solids.{solid_of}
-use Rattle.solid_eval.specs.Uses.{leaf_count}
-use Rattle.solid_eval.proofs.FromUses.{uses_counted}
-use Rattle.solid_eval.proofs.Uses.{count_most}
 use Rattle.solid_questions.specs.declared.questions.Question.{Question}
 use Rattle.solid_questions.specs.Questions.{entity_of}
 use Rattle.solid_questions.specs.QuestionCells.{all_cells}
@@ -25,12 +18,15 @@ use Rattle.ask_core.specs.Books.{BookFacts, IsBook, IsAtOnce}
 use Rattle.ask_core.specs.Machine.{SessionRun, MachineState, run_of, with_run, with_reply, with_log, at_stage, after_fill, session_places, machine_start, most_fills, IsBegin, answered_at_once, running, IsFill, IsCommit, IsNewestOnRun, IsMoved, moved, WhileIdle, steps, void, IsFillEvent, fills, IsNewestEvent, on_run, IsStep, AreSteps}
 use Rattle.ask_core.specs.Machine as machine
 use Rattle.ask_core.specs.Places as places
-use Rattle.ask_core.specs.Places.{AreFills, IsRunOf, IsPlace, IsState, IsLooked, looked, IsWorkedOn, works, IsFilled, IsNewestReply, IsCommitted}
+use Rattle.ask_core.specs.Places.{AreRounds, IsRunOf, IsPlace, IsState, IsLooked, looked_for, IsWorkedOn, works, IsFilled, IsNewestReply, IsCommitted}
 use Rattle.ask_core.specs.Replies.{with_version, committed_reply, refused_reply, cancelled_reply}
-use Rattle.ask_core.specs.Runs.{RunFacts, GoesOnWith, IsRunning, begun, left_of, run_uses, cell_uses, next_stage, settled, with_taken, worked}
+use Rattle.ask_core.specs.Runs.{RunFacts, GoesOnWith, IsRunning, begun, left_of, run_uses, next_stage, settled, with_taken, worked}
+use Rattle.ask_core.specs.Timely.{IsDoneAfter, at_first, one_more}
 use Rattle.ask_core.specs.declared.runs.Stage.{Stage}
 use Rattle.ask_core.specs.declared.runs.Stage.TheVariants as stage
+use Rattle.ask_core.proofs.DoneRounds.{rounds_within}
 use Rattle.ask_core.proofs.PlaceSteps.{named}
+use Rattle.ask_core.proofs.RoundsEnd.{uses_most}
 use mathlib.Core.List.{IsPrefix}
 
 -- ---- places
@@ -58,7 +54,7 @@ pub pushed_at : (ts : List (List Reply)) (i : ℕ) (old : List Reply) (reply : R
     → set ts i new ≡ set ts i (get_or ts i [] ++ reply ∷ [])
 pushed_at ts i old reply new h is pushed = ap (set ts i) (pushed ∙ ap (λ (t : List Reply). t ++ reply ∷ []) (sym (value_at ts i old [] h is)))
 
-no_run_there : (book : BookFacts) (place : Option RunFacts) (o : Option SessionRun) → place ≡ None → IsPlace book place o → o ≡ None
+pub no_run_there : (book : BookFacts) (place : Option RunFacts) (o : Option SessionRun) → place ≡ None → IsPlace book place o → o ≡ None
 no_run_there book None None is h = refl
 no_run_there book None (Some r) is h = absurd h
 no_run_there book (Some run) o is h = grind (arith, is)
@@ -87,7 +83,7 @@ on_longer old new (Some run) (Some r) opens longer h = record {
   version = h.version;
   live = h.live;
   stage = h.stage;
-  fills = h.fills;
+  rounds = h.rounds;
   goes_on = (h.goes_on.0 ∙ sym opens, prefix_trans run.log old.log new.log h.goes_on.1 longer);
 }
 
@@ -242,7 +238,7 @@ run_step opening book q live run runs transcripts state session right not_at_onc
       version = ap (λ (l : List LogEntry). length l) h.log;
       live = refl;
       stage = refl;
-      fills = omega arith;
+      rounds = at_first;
       goes_on = (refl, prefix_self book.log);
     } in (
       with_run state session (Some r),
@@ -253,7 +249,7 @@ run_step opening book q live run runs transcripts state session right not_at_onc
 -- ---- runs
 
 -- the run of a state stands at its place
-run_back : (book : BookFacts) (place : Option RunFacts) (o : Option SessionRun) (r : SessionRun) → o ≡ Some r → IsPlace book place o
+pub run_back : (book : BookFacts) (place : Option RunFacts) (o : Option SessionRun) (r : SessionRun) → o ≡ Some r → IsPlace book place o
     → (run : RunFacts) × (place ≡ Some run) × IsRunOf book run r
 run_back book None None r is h = absurd (grind (arith, is))
 run_back book None (Some x) r is h = absurd h
@@ -269,18 +265,19 @@ not_at opening book runs transcripts state session place at is none h r there st
     none run (is ∙ here) (sym of.stage ∙ staged)
 
 pub look_step : (opening : Model) (old new : BookFacts) (place after_place : Option RunFacts) (runs : List (Option RunFacts)) (transcripts : List (List Reply)) (state : MachineState) (session : ℕ)
-    → IsLooked place after_place → new.opening ≡ old.opening → new.log ≡ old.log → session < session_places → place ≡ get_or runs session None → IsState opening old runs transcripts state
+    → IsLooked place after_place old.memo.entries new.memo.entries → new.opening ≡ old.opening → new.log ≡ old.log → session < session_places → place ≡ get_or runs session None → IsState opening old runs transcripts state
     → (after : MachineState) × IsMoved state session stage.Idle stage.Ready after × IsState opening new (set runs session after_place) transcripts after
-look_step opening old new place after_place runs transcripts state session (looked run taken entries is idle then) opens same within at h =
+look_step opening old new place after_place runs transcripts state session (looked_for run taken is idle next then memo) opens same within at h =
+    let entries = old.memo.entries in
     let (r, there, of) = run_there old (get_or runs session None) (run_of state session) run (sym at ∙ is) (h.places session) in
     let h' = book_state opening old new runs transcripts state opens same h in
-    let fills : r.fills ≤ run.done = subst (λ (s : Stage). AreFills s r.fills run.done) idle of.fills in
+    let done : IsDoneAfter run.table run.question r.fills run.done = subst (AreRounds run r.fills) idle of.rounds in
     let ready : IsRunOf old (with_taken run taken entries) (at_stage r stage.Ready) = record {
       question = of.question;
       version = of.version;
       live = of.live;
       stage = refl;
-      fills = fills;
+      rounds = (done, next);
       goes_on = of.goes_on;
     } in (
       with_run state session (Some (at_stage r stage.Ready)),
@@ -289,30 +286,24 @@ look_step opening old new place after_place runs transcripts state session (look
           (subst (λ (p : Option RunFacts). IsPlace new p (Some (at_stage r stage.Ready))) (sym then)
           (on_longer old new (Some (with_taken run taken entries)) (Some (at_stage r stage.Ready)) opens (same_log_prefix old.log new.log same) ready)),
     )
-look_step opening old new place after_place runs transcripts state session (places.other none stays) opens same within at h = (
+look_step opening old new place after_place runs transcripts state session (places.other none stays memo) opens same within at h = (
   state,
   machine.other (not_at opening old runs transcripts state session place stage.Idle at none h),
   kept_state opening new runs transcripts state session (book_state opening old new runs transcripts state opens same h) within after_place (stays ∙ at),
 )
 
--- a run has no more uses than cells times weight
-some_length : {A : Type 0} (xs : List A) → xs ≢ [] → 1 ≤ length xs
-some_length [] h = absurd (h refl)
-some_length (x ∷ xs) h = omega arith
-
-pub work_step : (opening : Model) (book : BookFacts) (place after_place : Option RunFacts) (runs : List (Option RunFacts)) (transcripts : List (List Reply)) (state : MachineState) (session : ℕ)
-    → IsWorkedOn place after_place → session < session_places → place ≡ get_or runs session None → IsState opening book runs transcripts state
+pub work_step : (opening : Model) (book : BookFacts) (place after_place : Option RunFacts) (before count : ℕ) (runs : List (Option RunFacts)) (transcripts : List (List Reply)) (state : MachineState) (session : ℕ)
+    → IsWorkedOn place after_place before count → session < session_places → place ≡ get_or runs session None → IsState opening book runs transcripts state
     → (after : MachineState) × IsMoved state session stage.Ready stage.Worked after × IsState opening book (set runs session after_place) transcripts after
-work_step opening book place after_place runs transcripts state session (works run is ready going then) within at h =
+work_step opening book place after_place before count runs transcripts state session (works run is ready going then counts) within at h =
     let (r, there, of) = run_there book (get_or runs session None) (run_of state session) run (sym at ∙ is) (h.places session) in
-    let fills : r.fills ≤ run.done = subst (λ (s : Stage). AreFills s r.fills run.done) ready of.fills in
-    let one : 1 ≤ length run.taken = some_length run.taken (subst (λ (s : Stage). Rattle.ask_core.specs.Runs.IsAtStage run s) ready going.at_stage).some in
+    let round : AreRounds run r.fills stage.Ready = subst (AreRounds run r.fills) ready of.rounds in
     let now : IsRunOf book (worked run) (at_stage r stage.Worked) = record {
       question = of.question;
       version = of.version;
       live = of.live;
       stage = refl;
-      fills = omega (arith, fills, one);
+      rounds = one_more round.0 round.1;
       goes_on = of.goes_on;
     } in (
       with_run state session (Some (at_stage r stage.Worked)),
@@ -320,7 +311,7 @@ work_step opening book place after_place runs transcripts state session (works r
       run_state opening book runs transcripts state session h within after_place (Some (at_stage r stage.Worked))
           (subst (λ (p : Option RunFacts). IsPlace book p (Some (at_stage r stage.Worked))) (sym then) now),
     )
-work_step opening book place after_place runs transcripts state session (places.other none stays) within at h = (
+work_step opening book place after_place before count runs transcripts state session (places.other none stays counts) within at h = (
   state,
   machine.other (not_at opening book runs transcripts state session place stage.Ready at none h),
   kept_state opening book runs transcripts state session h within after_place (stays ∙ at),
@@ -328,21 +319,10 @@ work_step opening book place after_place runs transcripts state session (places.
 
 -- ---- fills
 
--- as many uses a cell as the entity's solid has
-each_counted : (rows : List Entity) (q : Question) (cells : List Cube) → length (flat_map (cell_uses rows q) cells) ≡ length cells * leaf_count (solid_of rows (entity_of q))
-each_counted rows q [] = omega arith
-each_counted rows q (cube ∷ cells) =
-    length-append (cell_uses rows q cube) (flat_map (cell_uses rows q) cells)
-    ∙ omega (arith, each_counted rows q cells, uses_counted (solid_of rows (entity_of q)) (spans_of (box_of cube)))
-
--- a run has no more uses than cells times weight
+-- a run has no more uses than its most fills
 few_uses : (run : RunFacts) (r : SessionRun) → r.question ≡ run.question → length (run_uses run) ≤ most_fills run.table.model r
 few_uses run r same =
-    let rows = run.table.model.rows in
-    let q = run.question in
-    let less : length (all_cells q) * leaf_count (solid_of rows (entity_of q)) ≤ length (all_cells q) * weight_of rows (entity_of q) = mul-le-mul (omega arith) (count_most rows (entity_of q)) in
-    let few : length (run_uses run) ≤ length (all_cells q) * weight_of rows (entity_of q) = omega (arith, each_counted rows q (all_cells q), less) in
-    subst (λ (x : Question). length (run_uses run) ≤ length (all_cells x) * weight_of rows (entity_of x)) (sym same) few
+    subst (λ (x : Question). length (run_uses run) ≤ length (all_cells x) * weight_of run.table.model.rows (entity_of x)) (sym same) (uses_most run)
 
 -- the model of a run's version is that of the same version of the longer log
 version_of_run : (opening : Model) (book : BookFacts) (runs : List (Option RunFacts)) (transcripts : List (List Reply)) (state : MachineState) (run : RunFacts) (r : SessionRun)
@@ -359,7 +339,7 @@ next_idle zero h = absurd (omega (arith, h))
 next_idle (suc n) h = refl
 
 worked_fills : (run : RunFacts) (r : SessionRun) (book : BookFacts) → run.stage ≡ stage.Worked → IsRunOf book run r → suc r.fills ≤ run.done
-worked_fills run r book at of = subst (λ (s : Stage). AreFills s r.fills run.done) at of.fills
+worked_fills run r book at of = rounds_within run.table run.question (suc r.fills) run.done (subst (AreRounds run r.fills) at of.rounds)
 
 filled_runs : (opening : Model) (old new : BookFacts) (run : RunFacts) (r : SessionRun) → run.stage ≡ stage.Worked → 0 < left_of run → new.opening ≡ old.opening → new.log ≡ old.log → IsRunOf old run r
     → IsPlace new (Some (settled run)) (Some (after_fill r))
@@ -370,7 +350,7 @@ filled_runs opening old new run r at left opens same of =
       version = of.version;
       live = of.live;
       stage = sym idle;
-      fills = subst (λ (s : Stage). AreFills s (suc r.fills) run.done) (sym idle) (worked_fills run r old at of);
+      rounds = subst (AreRounds (settled run) (suc r.fills)) (sym idle) (subst (AreRounds run r.fills) at of.rounds);
       goes_on = of.goes_on;
     } in
     on_longer old new (Some (settled run)) (Some (after_fill r)) opens (same_log_prefix old.log new.log same) settled_one
@@ -381,17 +361,17 @@ replied transcripts session None = transcripts
 replied transcripts session (Some reply) = set transcripts session (get_or transcripts session [] ++ reply ∷ [])
 
 pub fill_step : (opening : Model) (old new : BookFacts) (place after_place : Option RunFacts) (reply : Option Reply) (runs : List (Option RunFacts)) (transcripts ts : List (List Reply)) (state : MachineState) (session : ℕ)
-    → IsFilled place after_place reply → new.opening ≡ old.opening → new.log ≡ old.log → session < session_places → place ≡ get_or runs session None → ts ≡ replied transcripts session reply
+    → IsFilled place after_place reply old.memo.entries new.memo.entries → new.opening ≡ old.opening → new.log ≡ old.log → session < session_places → place ≡ get_or runs session None → ts ≡ replied transcripts session reply
     → IsState opening old runs transcripts state
     → (after : MachineState) × IsFillEvent opening state session after × IsState opening new (set runs session after_place) ts after
-fill_step opening old new place after_place reply runs transcripts ts state session (places.other none stays no_reply) opens same within at without_run h =
+fill_step opening old new place after_place reply runs transcripts ts state session (places.other none stays no_reply memo) opens same within at without_run h =
     let same_ts : ts ≡ transcripts = without_run ∙ ap (replied transcripts session) no_reply in (
       state,
       machine.IsFillEvent.other (not_at opening old runs transcripts state session place stage.Worked at none h),
       subst (λ t. IsState opening new (set runs session after_place) t state) (sym same_ts)
           (kept_state opening new runs transcripts state session (book_state opening old new runs transcripts state opens same h) within after_place (stays ∙ at)),
     )
-fill_step opening old new place after_place reply runs transcripts ts state session (places.goes_on run is staged going left then no_reply) opens same within at without_run h =
+fill_step opening old new place after_place reply runs transcripts ts state session (places.goes_on run is staged going left then no_reply memo) opens same within at without_run h =
     let (r, there, of) = run_there old (get_or runs session None) (run_of state session) run (sym at ∙ is) (h.places session) in
     let h' = book_state opening old new runs transcripts state opens same h in
     let same_ts : ts ≡ transcripts = without_run ∙ ap (replied transcripts session) no_reply in
@@ -403,7 +383,7 @@ fill_step opening old new place after_place reply runs transcripts ts state sess
           (run_state opening new runs transcripts state session h' within after_place (Some (after_fill r))
           (subst (λ (p : Option RunFacts). IsPlace new p (Some (after_fill r))) (sym then) (filled_runs opening old new run r staged left opens same of))),
     )
-fill_step opening old new place after_place reply runs transcripts ts state session (places.ends run body is staged going then answer replies) opens same within at without_run h =
+fill_step opening old new place after_place reply runs transcripts ts state session (places.ends run body is staged going none_left then answer replies memo) opens same within at without_run h =
     let (r, there, of) = run_there old (get_or runs session None) (run_of state session) run (sym at ∙ is) (h.places session) in
     let h' = book_state opening old new runs transcripts state opens same h in
     let few : suc r.fills ≤ most_fills run.table.model r = omega (arith, worked_fills run r old staged of, few_uses run r of.question, going.within) in

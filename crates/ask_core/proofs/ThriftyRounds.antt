@@ -15,10 +15,12 @@ use Rattle.memo_graph.proofs.Entries.{without-none}
 use Rattle.memo_graph.proofs.Keeping.{verdicts-promoted, length-promoted, memo-promoted, fits-filled}
 use Rattle.edit_core.specs.Versions.{Version}
 use Rattle.ask_core.specs.Books.{BookFacts, key_verdict, memo_capacity}
+use Rattle.ask_core.specs.Frugal.{EachDiffers}
 use Rattle.ask_core.specs.Runs.{RunFacts, IsRunning, IsAtStage, IsOwnKey, GoesOnWith, next_stage, use_key, use_keys, distinct, looked, not_held, kept_all, with_taken, worked, settled, left_of}
 use Rattle.ask_core.specs.Thrift.{HoldEntries, HoldUses, EachIsKept, IsThrifty, IsFurther}
 use Rattle.ask_core.specs.declared.runs.Stage.TheVariants as stage
 use Rattle.ask_core.proofs.KeptEntries.{looked_old}
+use Rattle.ask_core.proofs.OpenQuestions.{open_not_at_once}
 
 -- ---- a list of entries is no longer than one that holds their keys
 
@@ -72,12 +74,7 @@ no_longer (e ∷ es) keys once held =
 
 -- ---- keys that aren't held, each once
 
--- no key is the same as one after it
-abbrev pub EachDiffers : List Key → Type 0
-EachDiffers [] = Unit {0}
-EachDiffers (k ∷ keys) = AllByRecursion (λ y. same_key k y ≡ false) keys × EachDiffers keys
-
-all_filtered : {X : Type 0} (P : X → Type 0) (p : X → Bool) (xs : List X) → AllByRecursion P xs → AllByRecursion P (filter p xs)
+pub all_filtered : {X : Type 0} (P : X → Type 0) (p : X → Bool) (xs : List X) → AllByRecursion P xs → AllByRecursion P (filter p xs)
 all_filtered P p [] all = tt
 all_filtered P p (x ∷ xs) all = go (p x) (all_filtered P p xs all.1) where
   go : (b : Bool) → AllByRecursion P (filter p xs) → AllByRecursion P (cond b (x ∷ filter p xs) (filter p xs))
@@ -131,6 +128,9 @@ looked_memo (k ∷ keys) es most m = looked_memo keys (promoted k es) most (memo
 pub looked_length : (keys : List Key) (es : List Entry) (most : ℕ) → IsMemo (record { entries = es; capacity = most }) → length (looked keys es) ≡ length es
 looked_length [] es most m = refl
 looked_length (k ∷ keys) es most m = looked_length keys (promoted k es) most (memo-promoted k es most m) ∙ length-promoted k es m.once
+
+pub none_looked : (keys : List Key) (es : List Entry) (wanted : List Key) → AllByRecursion (λ k. verdict_of k es ≡ None) wanted → AllByRecursion (λ k. verdict_of k (looked keys es) ≡ None) wanted
+none_looked keys es wanted all = subst (λ (v : Key → Option Verdict). AllByRecursion (λ k. v k ≡ None) wanted) (λ i. λ k. sym (looked_verdict keys es k) i) all
 
 -- ---- entries that are kept
 
@@ -194,11 +194,12 @@ module _ (run : RunFacts) (taken : List Use) (es : List Entry) where
 
   pub round_thrifty : (before after most : ℕ) (new : List Entry) → IsMemo (record { entries = es; capacity = most }) → IsRunning at_work → after ≡ counted before (length (not_held keys_taken es))
       → new ≡ kept_all memo_capacity at_work.fresh (looked keys_taken es) → IsThrifty run.table run.question es new before after
-  round_thrifty before after most new memo running count is keys few held uses =
+  round_thrifty before after most new memo running count is keys few held begun =
+      let uses = begun (open_not_at_once run.table.model.rows run.question running.cells running.not_refused) in
       let wanted = not_held keys_taken es in
       let f = key_verdict run.table.model.rows in
       let own = own_wanted keys uses f wanted (λ x c. (running.at_stage.own x c).0) in
-      let none = none_looked wanted (none_held keys_taken es) in
+      let none = none_looked keys_taken es wanted (none_held keys_taken es) in
       let kept = kept_each f memo_capacity keys wanted (looked keys_taken es) few (looked_memo keys_taken es most memo).once
       (λ x c. held x (looked_old keys_taken es x c)) (not_held_distinct (map (use_key run.table) taken) es) none own in
       let long = looked_length keys_taken es most memo in
@@ -206,9 +207,6 @@ module _ (run : RunFacts) (taken : List Use) (es : List Entry) where
         held = kept.0;
         each = omega (arith, kept.1, long, within_ticks count);
       }) where
-        none_looked : (wanted : List Key) → AllByRecursion (λ k. verdict_of k es ≡ None) wanted → AllByRecursion (λ k. verdict_of k (looked keys_taken es) ≡ None) wanted
-        none_looked wanted all = subst (λ (v : Key → Option Verdict). AllByRecursion (λ k. v k ≡ None) wanted) (λ i. λ k. sym (looked_verdict keys_taken es k) i) all
-
         within_ticks : after ≡ counted before (length (not_held keys_taken es)) → after ≤ before + length (not_held keys_taken es)
         within_ticks is = grind (arith, is)
 

@@ -9,3 +9,5 @@ pub mod Begins
 pub mod Machine
 pub mod Places
 pub mod Thrift
+pub mod Timely
+pub mod Frugal

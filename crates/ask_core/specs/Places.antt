@@ -3,6 +3,7 @@ use Rattle.std.specs.Prelude.{◌≡◌, ◌≢◌, ◌⊎◌, ℕ, suc, ◌<◌
 use Rattle.std.specs.Prelude.{true, Option, None, Some, codes}
 use Rattle.solid_base.specs.declared.entities.Model.{Model}
 use Rattle.solid_base.specs.declared.replies.Reply.{Reply}
+use Rattle.solid_base.specs.Ledgers.{counted}
 use Rattle.solid_questions.specs.Questions.{IsLawful}
 use Rattle.solid_eval.specs.Uses.{Use}
 use Rattle.memo_graph.specs.Memos.{Entry}
@@ -10,10 +11,11 @@ use Rattle.edit_core.specs.declared.faults.EditFault.{EditFault}
 use Rattle.edit_core.specs.Edits.{IsEdited, IsRefused}
 use Rattle.edit_core.specs.Versions.{LogEntry}
 use Rattle.ask_core.specs.Answers.{IsAnswer}
-use Rattle.ask_core.specs.Books.{BookFacts}
+use Rattle.ask_core.specs.Books.{BookFacts, memo_capacity}
 use Rattle.ask_core.specs.Replies.{with_version, committed_reply, refused_reply, cancelled_reply}
-use Rattle.ask_core.specs.Runs.{RunFacts, GoesOnWith, IsRunning, left_of, with_taken, worked}
-use Rattle.ask_core.specs.Runs.{settled}
+use Rattle.ask_core.specs.Runs.{RunFacts, GoesOnWith, IsRunning, IsTaken, left_in_cell, left_of}
+use Rattle.ask_core.specs.Runs.{use_keys, looked, kept_all, with_taken, worked, settled}
+use Rattle.ask_core.specs.Timely.{IsDoneAfter}
 use Rattle.ask_core.specs.Machine.{SessionRun, MachineState, IsStep, session_places}
 use Rattle.ask_core.specs.declared.machine.Sessions.{Sessions}
 use Rattle.ask_core.specs.declared.events.Event.{Event}
@@ -38,13 +40,14 @@ IsLawfulEvent (event.Newest session) = IsSession session
 
 -- ---- places
 
--- each fill came after a work, and a work takes at least one use: so there were no more fills than
--- uses that are done, and fewer where a fill is to come
-abbrev pub AreFills : Stage → ℕ → ℕ → Type 0
-AreFills stage.Idle fills done = fills ≤ done
-AreFills stage.Ready fills done = fills ≤ done
-AreFills stage.Worked fills done = suc fills ≤ done
-AreFills stage.Done fills done = fills ≤ done
+-- the uses of a run are done after so many rounds as it had fills, and one more where a fill comes
+-- next; where work does, those that are taken come next
+abbrev pub AreRounds : RunFacts → ℕ → Stage → Type 0
+AreRounds run fills stage.Idle = IsDoneAfter run.table run.question fills run.done
+AreRounds run fills stage.Ready = IsDoneAfter run.table run.question fills run.done
+    × IsTaken run.table (left_in_cell run) run.taken
+AreRounds run fills stage.Worked = IsDoneAfter run.table run.question (suc fills) run.done
+AreRounds run fills stage.Done = IsDoneAfter run.table run.question fills run.done
 
 -- a run is that of a session in a state, and goes on with the book
 pub record IsRunOf (book : BookFacts) (run : RunFacts) (r : SessionRun) : Type 0 where
@@ -52,7 +55,7 @@ pub record IsRunOf (book : BookFacts) (run : RunFacts) (r : SessionRun) : Type 0
   pub version : r.version ≡ length run.log
   pub live : r.live ≡ run.live
   pub stage : r.stage ≡ run.stage
-  pub fills : AreFills run.stage r.fills run.done
+  pub rounds : AreRounds run r.fills run.stage
   pub goes_on : GoesOnWith run book
 
 -- what the place of a session holds stands for its run in a state
@@ -82,30 +85,38 @@ pub record HasPlaces (runs : List (Option RunFacts)) (transcripts : List (List R
 
 -- ---- what becomes of a place
 
--- a look takes uses where one comes next, and else leaves the place as it is
-pub data IsLooked (old new : Option RunFacts) : Type 0 where
-  looked : (run : RunFacts) (taken : List Use) (entries : List Entry) → old ≡ Some run
-      → run.stage ≡ stage.Idle → new ≡ Some (with_taken run taken entries) → IsLooked old new
+-- a look takes uses where one comes next, and else leaves the place and the memo's entries as they
+-- are
+pub data IsLooked (old new : Option RunFacts) (entries after : List Entry) : Type 0 where
+  looked_for : (run : RunFacts) (taken : List Use) → old ≡ Some run → run.stage ≡ stage.Idle
+      → IsTaken run.table (left_in_cell run) taken → new ≡ Some (with_taken run taken entries)
+      → after ≡ looked (use_keys run.table taken) entries → IsLooked old new entries after
   other : ((run : RunFacts) → old ≡ Some run → run.stage ≢ stage.Idle) → new ≡ old
-      → IsLooked old new
+      → after ≡ entries → IsLooked old new entries after
 
--- work is done where it comes next, and else the place stays as it is
-pub data IsWorkedOn (old new : Option RunFacts) : Type 0 where
+-- work is done where it comes next, and each key that wasn't found is counted; else the place and
+-- the count stay as they are
+pub data IsWorkedOn (old new : Option RunFacts) (before after : ℕ) : Type 0 where
   works : (run : RunFacts) → old ≡ Some run → run.stage ≡ stage.Ready → IsRunning run
-      → new ≡ Some (worked run) → IsWorkedOn old new
+      → new ≡ Some (worked run) → after ≡ counted before (length run.wanted)
+      → IsWorkedOn old new before after
   other : ((run : RunFacts) → old ≡ Some run → run.stage ≢ stage.Ready) → new ≡ old
-      → IsWorkedOn old new
+      → after ≡ before → IsWorkedOn old new before after
 
--- a fill leaves a place as it is where no fill comes next in it, or its run goes on, or its run
--- ends with its answer
-pub data IsFilled (old new : Option RunFacts) (reply : Option Reply) : Type 0 where
+-- a fill leaves a place and the memo's entries as they are where no fill comes next in it, or its
+-- run goes on, or its run ends with its answer, where no use is left
+pub data IsFilled (old new : Option RunFacts) (reply : Option Reply) (entries after : List Entry)
+    : Type 0 where
   other : ((run : RunFacts) → old ≡ Some run → run.stage ≢ stage.Worked) → new ≡ old
-      → reply ≡ None → IsFilled old new reply
+      → reply ≡ None → after ≡ entries → IsFilled old new reply entries after
   goes_on : (run : RunFacts) → old ≡ Some run → run.stage ≡ stage.Worked → IsRunning run
-      → 0 < left_of run → new ≡ Some (settled run) → reply ≡ None → IsFilled old new reply
+      → 0 < left_of run → new ≡ Some (settled run) → reply ≡ None
+      → after ≡ kept_all memo_capacity run.fresh entries → IsFilled old new reply entries after
   ends : (run : RunFacts) (body : List ℕ) → old ≡ Some run → run.stage ≡ stage.Worked
-      → IsRunning run → new ≡ None → IsAnswer run.table.model run.question body
-      → reply ≡ Some (with_version (length run.log) body) → IsFilled old new reply
+      → IsRunning run → left_of run ≡ 0 → new ≡ None
+      → IsAnswer run.table.model run.question body
+      → reply ≡ Some (with_version (length run.log) body)
+      → after ≡ kept_all memo_capacity run.fresh entries → IsFilled old new reply entries after
 
 -- a session hears of the newest version, or that its run is cancelled, or nothing
 pub data IsNewestReply (newest : ℕ) (old : Option RunFacts) (reply : Option Reply) : Type 0 where

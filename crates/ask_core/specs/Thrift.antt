@@ -5,7 +5,7 @@ use Rattle.solid_questions.specs.declared.questions.Question.{Question}
 use Rattle.memo_graph.specs.declared.key.Key.{Key}
 use Rattle.memo_graph.specs.Memos.{Entry}
 use Rattle.edit_core.specs.Versions.{Version}
-use Rattle.ask_core.specs.Books.{memo_capacity}
+use Rattle.ask_core.specs.Books.{memo_capacity, IsAtOnce}
 use Rattle.ask_core.specs.Runs.{RunFacts, left_of, next_stage, question_uses, use_key}
 
 -- solidd's own: the keys of all entries of a memo are among some keys
@@ -18,6 +18,10 @@ abbrev pub HoldUses : List Key → Version → Question → Type 0
 HoldUses keys table q =
     (u : Use) → Contains (question_uses table.model.rows q) u → Contains keys (use_key table u)
 
+-- solidd's own: those of a question that is begun in a version: it isn't answered at once there
+abbrev pub HoldBegunUses : List Key → Version → Question → Type 0
+HoldBegunUses keys table q = ¬ IsAtOnce table.model.rows q → HoldUses keys table q
+
 -- solidd's own: each evaluation left one entry more in the memo, none was dropped, and the keys of
 -- all are among some keys still
 pub record EachIsKept (keys : List Key) (old new : List Entry) (before after : ℕ) : Type 0 where
@@ -28,8 +32,8 @@ pub record EachIsKept (keys : List Key) (old new : List Entry) (before after : �
 -- and of the question's uses, each one leaves one entry more, and none is dropped
 abbrev pub IsThrifty : Version → Question → List Entry → List Entry → ℕ → ℕ → Type 0
 IsThrifty table q old new before after =
-    (keys : List Key) → length keys ≤ memo_capacity → HoldEntries keys old → HoldUses keys table q
-    → EachIsKept keys old new before after
+    (keys : List Key) → length keys ≤ memo_capacity → HoldEntries keys old
+    → HoldBegunUses keys table q → EachIsKept keys old new before after
 
 -- a run is further than it was: it is on the same version with the same question, and a look comes
 -- next where uses are left

@@ -3,7 +3,7 @@ ghost use mathlib.Core.List.{IsPrefix};
 ghost use Rattle.solid_base.specs.Ledgers.{RisesUpTo};
 ghost use Rattle.solid_questions.specs.Questions.{IsLawful};
 ghost use Rattle.solid_questions.specs.Refusals.{most_evaluations};
-ghost use Rattle.ask_core.specs.Answers.{IsAnswer};
+ghost use Rattle.ask_core.specs.Answers.{IsAnswer, Evaluates};
 ghost use Rattle.ask_core.specs.Runs.{GoesOnWith, left_of};
 ghost use Rattle.ask_core.specs.Thrift.{IsFurther, IsThrifty};
 ghost use Rattle.ask_core.specs.declared.runs.Stage.TheVariants as stage;
@@ -76,6 +76,8 @@ impl Book {
         ensures answer { OnOk result ((body : List ℕ)
             × IsAnswer self.old.table.model question.now body × (out.new ≡ out.old ++ body)) }
         ensures front { IsPrefix out.old out.new }
+        ensures most { (count : ℕ) × Evaluates self.old.table.model.rows question.now count
+            × RisesUpTo (L.count leaves.old) (L.count leaves.new) count }
         ensures light { RisesUpTo (L.count leaves.old) (L.count leaves.new) most_evaluations }
         ensures thrifty { OnOk result (IsThrifty self.old.table question.now
             self.old.memo.entries self.new.memo.entries

@@ -2,9 +2,9 @@
 //! memo of a book, which holds the newest version and the log of the commits that made it.
 //! Contracts see a model by its rows, an answer as the list of its bytes, a book and a run as their
 //! facts, and how many evaluations of primitives an answer takes. What an answer means for places
-//! is said by `laws`, and why verdicts stay right through commits by `book_laws`. The modules are
-//! read in this order: `cells`, `answers`, `laws`; `commits`, `books`, `book_laws`; `runs` with
-//! `course` and `rounds`; `asking`; `events` and `machine`.
+//! is said by `laws`, why verdicts stay right through commits by `book_laws`, and that rounds end by
+//! `run_laws`. The modules are read in this order: `cells`, `answers`, `laws`; `commits`, `books`,
+//! `book_laws`; `runs` with `course` and `rounds`; `run_laws`; `asking`; `events` and `machine`.
 #![tactic(auto)]
 
 mod answers;
@@ -17,8 +17,10 @@ mod course;
 mod crossing;
 mod events;
 pub mod laws;
+mod logged;
 mod machine;
 mod rounds;
+pub mod run_laws;
 mod runs;
 
 pub use answers::push_answer;

@@ -4,11 +4,13 @@ ghost use Rattle.std.specs.List.{AllByRecursion};
 ghost use Rattle.solid_questions.specs.Questions.{IsLawful};
 ghost use Rattle.edit_core.specs.EditFaults.{IsOfText};
 ghost use Rattle.iges_parameters.specs.Accepted.{IsAccepted};
-ghost use Rattle.ask_core.specs.Machine.{IsMachine, session_places};
+ghost use Rattle.ask_core.specs.Frugal.{IsFrugalStep};
+ghost use Rattle.ask_core.specs.Machine.{session_places};
 ghost use Rattle.ask_core.specs.Places.{HasPlaces, IsLawfulEvent, IsSession, MakesStep};
 ghost use Rattle.ask_core.specs.Places.{IsCommitted, IsFilled, IsLooked, IsNewestReply, IsWorkedOn};
 ghost use Rattle.ask_core.specs.Replies.{with_version, refused_reply};
 ghost use Rattle.ask_core.specs.Runs.{GoesOnWith};
+ghost use Rattle.ask_core.specs.Timely.{IsThriftyMachine};
 ghost use Rattle.ask_core.specs.declared.events.Event.TheVariants as event;
 
 use crate::books::{Begun, Book};
@@ -47,6 +49,7 @@ fn refused_reply(alloc: Global, version: u64, fault: &EditFault) -> Result<Reply
 fn commit_reply(alloc: Global, book: &mut Book, commit: Commit) -> Result<Reply, AllocError>
     ensures committed { IfOk result (IsCommitted book.old book.new commit) }
     ensures opening { book.new.opening ≡ book.old.opening }
+    ensures memo { book.new.memo ≡ book.old.memo }
 {
     let version = book.log().len() as u64;
     book.obeys();
@@ -60,7 +63,7 @@ fn commit_reply(alloc: Global, book: &mut Book, commit: Commit) -> Result<Reply,
 /// The uses that come next in a place's run are taken, where a look comes next in it.
 fn look(book: &mut Book, place: &mut Option<Run>)
     requires front { IfSome place.old (λ run. GoesOnWith run book.old) }
-    ensures place { IsLooked place.old place.new }
+    ensures place { IsLooked place.old place.new book.old.memo.entries book.new.memo.entries }
     ensures opening { book.new.opening ≡ book.old.opening }
     ensures log { book.new.log ≡ book.old.log }
 {
@@ -73,7 +76,7 @@ fn look(book: &mut Book, place: &mut Option<Run>)
 
 /// What wasn't found is evaluated in a place's run, where work comes next in it.
 fn work<L: Ledger>(place: &mut Option<Run>, leaves: &mut L)
-    ensures place { IsWorkedOn place.old place.new }
+    ensures place { IsWorkedOn place.old place.new (L.count leaves.old) (L.count leaves.new) }
 {
     if let Some(run) = place {
         if run.stage() == Stage::Ready {
@@ -91,7 +94,8 @@ fn fill(
     place: &mut Option<Run>,
 ) -> Result<Option<Reply>, AllocError>
     requires front { IfSome place.old (λ run. GoesOnWith run book.old) }
-    ensures place { IfOk result (IsFilled place.old place.new) }
+    ensures place { IfOk result (λ reply. IsFilled place.old place.new reply
+        book.old.memo.entries book.new.memo.entries) }
     ensures opening { book.new.opening ≡ book.old.opening }
     ensures log { book.new.log ≡ book.old.log }
 {
@@ -147,6 +151,8 @@ impl Sessions {
         requires lawful { IsLawful question.now }
         ensures step { OnOk result
             (MakesStep self.old (event.Begin session question.now live) self.new) }
+        ensures frugal { OnOk result ((count : ℕ) → IsFrugalStep self.old
+            (event.Begin session question.now live) self.new count count) }
     {
         let at = session as usize;
         if self.runs[at].is_some() {
@@ -174,6 +180,8 @@ impl Sessions {
         requires session { IsSession session }
         ensures step { OnOk result
             (MakesStep self.old (event.Commit session line batch) self.new) }
+        ensures frugal { OnOk result ((count : ℕ) →
+            IsFrugalStep self.old (event.Commit session line batch) self.new count count) }
     {
         let place = session as usize;
         if self.runs[place].is_some() {
@@ -196,6 +204,8 @@ impl Sessions {
         requires front { IfSome (get_or self.old.runs.items session no_run)
             (λ run. GoesOnWith run self.old.book) }
         ensures step { OnOk result (MakesStep self.old (event.Fill session) self.new) }
+        ensures frugal { OnOk result ((count : ℕ) →
+            IsFrugalStep self.old (event.Fill session) self.new count count) }
     {
         let at = session as usize;
         match fill(alloc, &mut self.book, &mut self.runs[at])? {
@@ -209,6 +219,8 @@ impl Sessions {
         requires places { HasPlaces self.old.runs.items self.old.transcripts.items }
         requires session { IsSession session }
         ensures step { OnOk result (MakesStep self.old (event.Newest session) self.new) }
+        ensures frugal { OnOk result ((count : ℕ) →
+            IsFrugalStep self.old (event.Newest session) self.new count count) }
     {
         let at = session as usize;
         let newest = self.book.log().len() as u64;
@@ -233,6 +245,8 @@ impl Sessions {
             (λ run. GoesOnWith run self.old.book) }
         requires lawful { IsLawfulEvent event }
         ensures step { OnOk result (MakesStep self.old event self.new) }
+        ensures frugal { OnOk result (IsFrugalStep self.old event self.new
+            (L.count leaves.old) (L.count leaves.new)) }
     {
         match event {
             Event::Begin {
@@ -281,6 +295,10 @@ fn places(alloc: Global) -> Result<(Vec<Option<Run>>, Vec<Transcript>), AllocErr
 /// with its answer. Newest cancels a live run of an older version, tells the version where the
 /// session has no run, and is void otherwise. AllocError comes when out of memory; a Fill that
 /// lacks memory is one such place. The ledger may have risen then.
+///
+/// Where no session begins a run while another has one, no run is cancelled, and the keys of all
+/// uses of the questions that are begun are at most 65,536, the ledger rises by no more than there
+/// are such keys.
 pub fn run_events<L: Ledger>(
     alloc: Global,
     model: SolidModel,
@@ -289,8 +307,8 @@ pub fn run_events<L: Ledger>(
 ) -> Result<Outcome, AllocError>
     requires accepted { IsAccepted model }
     requires lawful { AllByRecursion IsLawfulEvent events.items }
-    ensures machine { IfOk result (λ out.
-        IsMachine model events.items out.log out.transcripts) }
+    ensures machine { IfOk result (λ out. IsThriftyMachine model events.items
+        out.log out.transcripts (L.count leaves.old) (L.count leaves.new)) }
 {
     let (runs, transcripts) = places(alloc)?;
     let mut sessions = Sessions {

@@ -9,4 +9,5 @@ returns-in-Err c =
     record {
       committed = refused_if_ok c.args.book.now c.commit.new.self c.args.commit c.len-version.result c.in-Err.fault c.refused_reply.result (search rules) (c.in-Err.ensures.first_fault text) (search rules) c.refused_reply.ensures;
       opening = c.commit.ensures.opening;
+      memo = c.commit.ensures.memo;
     }
