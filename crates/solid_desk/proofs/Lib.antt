@@ -1,4 +1,5 @@
 pub mod LongerLogs
+pub mod CommitUnder
 pub mod CommitsOnce
 pub mod OpeningOnly
 pub mod AnswersApart
@@ -12,7 +13,12 @@ pub mod OneWork
 pub mod LawfulBatches
 pub mod WorkedRuns
 pub mod Staging
-pub mod DeskSteps
+pub mod LineSteps
+pub mod CountedLines
 pub mod Sums
 pub mod LegalByCount
 pub mod SideBySide
+pub mod Holding
+pub mod Asked
+pub mod Edited
+pub mod SessionLines

@@ -84,7 +84,7 @@ module _ (opening : Model) (log : List LogEntry) (session : ℕ) (at : Standing)
   passed_work command.Commit = refl
   passed_work (command.Bad f) = refl
 
-  line_some : (c : Command) (outcome : Outcome) (after : List LogEntry) → IsDone opening log session at c outcome after → (n : ℕ) × IsWork opening log c outcome n
+  pub line_some : (c : Command) (outcome : Outcome) (after : List LogEntry) → IsDone opening log session at c outcome after → (n : ℕ) × IsWork opening log c outcome n
   line_some c outcome after (inr passed) = (0, subst (λ (o : Outcome). IsWork opening log c o 0) (sym passed.0) (passed_work c))
   line_some (command.Ask q live) outcome after (inl h) = answered_work q outcome h.0
   line_some (command.Replace de r) outcome after (inl h) = (0, refl)

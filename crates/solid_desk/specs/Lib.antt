@@ -4,5 +4,9 @@ pub mod Legal
 pub mod WithoutCommits
 pub mod InOrder
 pub mod Work
-pub mod Desks
+pub mod Lines
+pub mod LineSteps
 pub mod SideBySide
+pub mod Turns
+pub mod Holds
+pub mod SessionSteps
