@@ -1,4 +1,11 @@
 pub mod CheckLaws
+pub mod LoadAccepted
+pub mod LoadBytes
+pub mod LoadGraph
+pub mod LoadLists
+pub mod LoadOnce
+pub mod LoadReplies
+pub mod LoadRuns
 pub mod Meaning
 pub mod Reading
 pub mod ReplayLaws
@@ -10,3 +17,7 @@ pub mod SessionLaws
 pub mod StatusLaws
 pub mod StepLaws
 pub mod WordLaws
+pub mod ServeLaws
+pub mod ServeSteps
+pub mod TranscriptLaws
+pub mod SentJobs

@@ -1,5 +1,5 @@
 -- What the reply to a line, in the bytes of an output, is by the model of its version.
-use Rattle.std.proofs.Common.{◌≡◌, inl, inr, ℕ, zero, suc, ◌==◌, ◌≤◌, ◌<◌, ◌+◌, ◌^◌, Bool, true, false, cond, List, [], ◌∷◌, ◌++◌, codes, decimal, drop, get_or, length, map, slice_get, Some, Result, Ok, Err, IfOk, refl, ap, subst, ◌∙◌, arith}
+use Rattle.std.proofs.Common.{◌≡◌, inl, inr, ℕ, zero, suc, ◌==◌, ◌≤◌, ◌<◌, ◌+◌, ◌^◌, Bool, true, false, cond, List, [], ◌∷◌, ◌++◌, codes, decimal, drop, get_or, length, map, slice_get, Some, Result, Ok, Err, IfOk, refl, sym, ap, subst, ◌∙◌, arith}
 use Rattle.std.specs.List.{AllByRecursion, range_with_len}
 use Rattle.solid_base.specs.declared.entities.Entity.{Entity}
 use Rattle.solid_base.specs.declared.entities.Model.{Model}
@@ -29,7 +29,7 @@ use Rattle.solid_desk.specs.InOrder.{transcripts_of, IsRun}
 use Rattle.solid_top.specs.declared.outputs.Output.{Output}
 use Rattle.solid_top.specs.declared.statuses.Status.TheVariants as status
 use Rattle.solid_top.specs.Output.{output_text}
-use Rattle.solid_top.specs.Replay.{IsAnswerIn, IsReplay, IsReplayOutput, IsReplayed, IsReplyIn}
+use Rattle.solid_top.specs.Replay.{IsAnswerIn, IsLawfulText, IsReplay, IsReplayOutput, IsReplayed}
 use Rattle.solid_top.proofs.ReplayLaws.{replay_once}
 use Rattle.solid_top.proofs.RowLaws.{are_lawful}
 use Rattle.solid_top.proofs.StepLaws.{test_not}
@@ -41,7 +41,7 @@ module _ (P : Command → Type 0) where
   all_if true c cs h k = (h, k)
   all_if false c cs h k = k
 
-  session_all : (lines : List ScriptLine) (session : ℕ) → AllByRecursion (λ (l : ScriptLine). P l.command) lines → AllByRecursion P (session_lines lines session)
+  pub session_all : (lines : List ScriptLine) (session : ℕ) → AllByRecursion (λ (l : ScriptLine). P l.command) lines → AllByRecursion P (session_lines lines session)
   session_all [] session h = tt
   session_all (l ∷ ls) session h = all_if (l.session == session) l.command (session_lines ls session) h.0 (session_all ls session h.1)
 
@@ -62,7 +62,7 @@ module _ (P : Command → Type 0) where
   all_at (x ∷ xs) zero c h there = (let same : x ≡ c = cc in subst (λ (v : Command). P v) same h.0)
   all_at (x ∷ xs) (suc place) c h there = all_at xs place c h.1 there
 
-commands_lawful : (lines : List ScriptLine) → AllByRecursion IsLawfulLine lines → AllByRecursion (λ (l : ScriptLine). IsLawfulCommand l.command) lines
+pub commands_lawful : (lines : List ScriptLine) → AllByRecursion IsLawfulLine lines → AllByRecursion (λ (l : ScriptLine). IsLawfulCommand l.command) lines
 commands_lawful [] h = tt
 commands_lawful (l ∷ ls) h = (h.0.1, commands_lawful ls h.1)
 
@@ -76,11 +76,11 @@ within_more m n (command.Drop de) less h = tt
 within_more m n command.Commit less h = tt
 within_more m n (command.Bad f) less h = tt
 
-all_within_more : (m n : ℕ) (lines : List ScriptLine) → m ≤ n → HaveRecordsWithin m lines → HaveRecordsWithin n lines
+pub all_within_more : (m n : ℕ) (lines : List ScriptLine) → m ≤ n → HaveRecordsWithin m lines → HaveRecordsWithin n lines
 all_within_more m n [] less h = tt
 all_within_more m n (l ∷ ls) less h = (within_more m n l.command less h.0, all_within_more m n ls less h.1)
 
-dropped_shorter : (n : ℕ) (bytes : List ℕ) → length (drop n bytes) ≤ length bytes
+pub dropped_shorter : (n : ℕ) (bytes : List ℕ) → length (drop n bytes) ≤ length bytes
 dropped_shorter zero bytes = omega arith
 dropped_shorter (suc n) [] = omega arith
 dropped_shorter (suc n) (b ∷ bs) = omega (arith, dropped_shorter n bs)
@@ -145,10 +145,16 @@ inside [] place x h = cc
 inside (y ∷ ys) zero x h = omega arith
 inside (y ∷ ys) (suc place) x h = omega (arith, inside ys place x h)
 
--- the text is that of a lawful outcome
-abbrev pub IsLawfulText : Model → List ScriptLine → List ℕ → Type 0
-IsLawfulText opening lines text =
-    (log : List LogEntry) × (transcripts : List (List Reply)) × IsLegal opening (sessions_of lines) log transcripts × (text ≡ output_text log transcripts)
+-- the replies to a line of a lawful outcome
+each_replied : (opening : Model) (lines : List ScriptLine) (log : List LogEntry) (transcripts : List (List Reply)) → IsLegal opening (sessions_of lines) log transcripts
+    → (session place : ℕ) (commands : List Command) (c : Command) → slice_get (sessions_of lines) session ≡ Some commands → slice_get commands place ≡ Some c
+    → (replies : List Reply) × (reply : Reply) × (slice_get transcripts session ≡ Some replies) × (slice_get replies place ≡ Some reply)
+each_replied opening lines log transcripts legal session place commands c of_session line_is =
+    let sizes = one_transcript opening (sessions_of lines) log transcripts legal in
+    let (replies, to_session) = there transcripts session (omega (arith, sizes, inside (sessions_of lines) session commands of_session)) in
+    let size = one_reply opening (sessions_of lines) log transcripts session commands replies legal of_session to_session in
+    let (reply, reply_is) = there replies place (omega (arith, size, inside commands place c line_is)) in
+    (replies, reply, to_session, reply_is)
 
 pub lawful_text : (bytes : List ℕ) (out : Output) → IsReplayed bytes out.status out.text → IsLawfulInput bytes → out.status ≡ status.Done
     → (opening : Model) (lines : List ScriptLine) → IsReplay bytes opening lines → IsLawfulText opening lines out.text
@@ -156,20 +162,21 @@ lawful_text bytes out replayed input done opening lines is =
     let h : IsReplayOutput bytes out.text = rw done at replayed in
     let (same, here) = replay_once bytes h.opening opening h.lines lines h.input is in
     let run : IsRun opening lines h.outcomes h.log = subst (λ (xs : List ScriptLine). IsRun opening xs h.outcomes h.log) here (subst (λ (m : Model). IsRun m h.lines h.outcomes h.log) same h.run) in
-    let printed : out.text ≡ output_text h.log (transcripts_of lines h.outcomes) = h.printed ∙ ap (λ (xs : List ScriptLine). output_text h.log (transcripts_of xs h.outcomes)) here in
-    (h.log, transcripts_of lines h.outcomes, runs_legal opening lines h.outcomes h.log (input opening lines is).1 run, printed)
-
-pub each_replied : (bytes text : List ℕ) (opening : Model) (lines : List ScriptLine) → IsLawfulText opening lines text → IsReplay bytes opening lines
-    → (session place : ℕ) (commands : List Command) (c : Command) → slice_get (sessions_of lines) session ≡ Some commands → slice_get commands place ≡ Some c
-    → (log : List LogEntry) × (reply : Reply) × IsReplyIn bytes text opening log session place c reply
-each_replied bytes text opening lines (log, transcripts, legal, printed) is session place commands c of_session line_is =
-    let sizes = one_transcript opening (sessions_of lines) log transcripts legal in
-    let (replies, to_session) = there transcripts session (omega (arith, sizes, inside (sessions_of lines) session commands of_session)) in
-    let size = one_reply opening (sessions_of lines) log transcripts session commands replies legal of_session to_session in
-    let (reply, reply_is) = there replies place (omega (arith, size, inside commands place c line_is)) in
-    (log, reply, record { lines = lines; transcripts = transcripts; commands = commands; replies = replies; input = is; lawful = legal; printed = printed; of_session = of_session; line_is = line_is; to_session = to_session; reply_is = reply_is })
+    let legal = runs_legal opening lines h.outcomes h.log (input opening lines is).1 run in
+    record {
+      log = h.log;
+      transcripts = transcripts_of lines h.outcomes;
+      lawful = legal;
+      printed = h.printed ∙ ap (λ (xs : List ScriptLine). output_text h.log (transcripts_of xs h.outcomes)) here;
+      each_line = each_replied opening lines h.log (transcripts_of lines h.outcomes) legal;
+    }
 
 -- ---- results
+
+-- a file that is refused isn't done
+pub not_done : {E : Type 0} (result : Result Output E) (P : Output → Type 0) → IfOk result (λ out. out.status ≡ status.Refused) → IfOk result (λ out. out.status ≡ status.Done → P out)
+not_done (Ok out) P is = λ done. (let other : status.Refused ≡ status.Done = sym is ∙ done in cc)
+not_done (Err e) P is = tt
 
 pub if_ok_then : {T E : Type 0} (result : Result T E) (P Q : T → Type 0) → ((x : T) → P x → Q x) → IfOk result P → IfOk result Q
 if_ok_then (Ok x) P Q f p = f x p

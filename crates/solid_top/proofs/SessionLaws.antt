@@ -281,7 +281,7 @@ front_push front sessions i text new session d within at so_far added all each =
     ∙ ap (λ t. front ++ t) (sym more)
 
 -- the log's text in front of others
-log_joined : (log : List LogEntry) (rest : List ℕ) → (log_head log ++ log_text 1 log) ++ rest ≡ codes "LOG " ++ (decimal (length log) ++ (codes "\n" ++ (log_text 1 log ++ rest)))
+pub log_joined : (log : List LogEntry) (rest : List ℕ) → (log_head log ++ log_text 1 log) ++ rest ≡ codes "LOG " ++ (decimal (length log) ++ (codes "\n" ++ (log_text 1 log ++ rest)))
 log_joined log rest =
     append_assoc (log_head log) (log_text 1 log) rest
     ∙ append_assoc (codes "LOG ") (decimal (length log) ++ codes "\n") (log_text 1 log ++ rest)

@@ -1,5 +1,6 @@
 -- How the words of a command line are read by `clap`. No contract of a public function names these.
-use Rattle.std.specs.Prelude.{◌≡◌, ◌==◌, ℕ, Bool, true, List, codes, slice_index, Some, None}
+use Rattle.std.specs.Prelude.{◌==◌, ℕ, Bool, true, List, [], ◌∷◌, codes, slice_index}
+use Rattle.std.specs.Prelude.{Option, Some, None}
 use Rattle.clap.specs.Words.{App, Rule, first_value, new_app, new_rule, with_rule}
 use Rattle.clap.specs.declared.builder.action.ArgAction.TheVariants.{Set}
 use Rattle.clap.specs.declared.parser.matches.Found.{Found}
@@ -21,7 +22,12 @@ unnamed = record (new_app (codes "solidd")) {
 abbrev pub words_app : App
 words_app = with_rule (with_rule unnamed (place (codes "command"))) (place (codes "number"))
 
--- solidd's own: the word was given as a command's name, and no number
-abbrev pub IsGiven : Found → List ℕ → Type 0
-IsGiven found word = (first_value found (codes "command") ≡ Some word)
-    × (first_value found (codes "number") ≡ None)
+-- solidd's own: the words that were given: a command's name, and a number or none
+abbrev pub given_words : Option (List ℕ) → Option (List ℕ) → List (List ℕ)
+given_words None number = []
+given_words (Some name) None = name ∷ []
+given_words (Some name) (Some number) = name ∷ number ∷ []
+
+abbrev pub words_given : Found → List (List ℕ)
+words_given found =
+    given_words (first_value found (codes "command")) (first_value found (codes "number"))

@@ -1,7 +1,7 @@
 -- solidd's own: what a replay of bytes answers.
-use Rattle.std.specs.Prelude.{◌≡◌, ◌≤◌, ◌*◌, ℕ, List, drop, length, OnOk, Result}
+use Rattle.std.specs.Prelude.{◌≡◌, ◌≤◌, ◌+◌, ◌*◌, ℕ, List, drop, length}
 use Rattle.std.specs.Prelude.{Bool, slice_get, Some}
-use Rattle.solid_base.specs.Ledgers.{counted, RisesUpTo}
+use Rattle.solid_base.specs.Ledgers.{RisesUpTo}
 use Rattle.solid_base.specs.declared.entities.Model.{Model}
 use Rattle.solid_base.specs.declared.replies.Reply.{Reply}
 use Rattle.solid_questions.specs.declared.questions.Question.{Question}
@@ -12,8 +12,11 @@ use Rattle.script_lines.specs.declared.commands.ScriptLine.{ScriptLine}
 use Rattle.script_lines.specs.Scripts.{IsScript}
 use Rattle.iges_file.specs.Files.{Reads}
 use Rattle.edit_core.specs.Versions.{LogEntry, IsVersion}
+use Rattle.memo_graph.specs.declared.key.Key.{Key}
+use Rattle.ask_core.specs.Books.{memo_capacity}
 use Rattle.solid_desk.specs.InOrder.{IsRun, HadMemory, transcripts_of}
 use Rattle.solid_desk.specs.Legal.{IsLegal}
+use Rattle.solid_desk.specs.Lines.{HoldRunUses}
 use Rattle.solid_desk.specs.Outcomes.{Outcome, with_version}
 use Rattle.solid_desk.specs.Sessions.{sessions_of}
 use Rattle.solid_desk.specs.Work.{AreWork}
@@ -29,7 +32,7 @@ pub record IsReplay (bytes : List ℕ) (opening : Model) (lines : List ScriptLin
   pub script : IsScript (drop end bytes) lines
 
 -- the text is the output of a run in which all lines of the script are done in order, from the
--- file's model on, and for each of which there is memory
+-- file's model on. A line for which there isn't enough memory is answered so, and does nothing
 pub record IsReplayOutput (bytes text : List ℕ) : Type 0 where
   pub opening : Model
   pub lines : List ScriptLine
@@ -37,7 +40,6 @@ pub record IsReplayOutput (bytes text : List ℕ) : Type 0 where
   pub log : List LogEntry
   pub input : IsReplay bytes opening lines
   pub run : IsRun opening lines outcomes log
-  pub memory : HadMemory outcomes
   pub printed : text ≡ output_text log (transcripts_of lines outcomes)
 
 -- Done comes only for a file and a script, with the output of its lines; Refused only for bytes
@@ -45,23 +47,65 @@ pub record IsReplayOutput (bytes text : List ℕ) : Type 0 where
 abbrev pub IsReplayed : List ℕ → Status → List ℕ → Type 0
 IsReplayed bytes s text = IsDoneOrRefused (IsReplayOutput bytes) (IsRefusal bytes) s text
 
+-- ---- where there is memory for each line
+
+-- the text is the output of a run for each of whose lines there was memory
+pub record IsWholeReplay (bytes text : List ℕ) : Type 0 where
+  pub output : IsReplayOutput bytes text
+  pub memory : HadMemory output.outcomes
+
+-- the text is the output of a run for some of whose lines there wasn't memory
+pub record IsLackingReplay (bytes text : List ℕ) : Type 0 where
+  pub output : IsReplayOutput bytes text
+  pub lacking : HadMemory output.outcomes → ⊥
+
+-- the first where the lines are those of a file and a script, and else the refusal of the file: to
+-- all bytes one status and one text
+abbrev pub IsDueReplay : List ℕ → Status → List ℕ → Type 0
+IsDueReplay bytes s text = IsDoneOrRefused (IsWholeReplay bytes) (IsRefusal bytes) s text
+
+-- ---- how many evaluations of primitives a replay makes
+
+-- the count of evaluations went from `old` to `new` for the lines of a run that came to this, if
+-- there was memory for each of them
+pub record IsCountedRun (opening : Model) (log : List LogEntry) (lines : List ScriptLine)
+    (outcomes : List Outcome) (old new : ℕ) : Type 0 where
+  -- no more than answers afresh take
+  pub most : HadMemory outcomes → (work : ℕ) → AreWork opening log lines outcomes work
+      → new ≤ old + work
+  -- no more than there are keys, where the memo has room for all of them
+  pub thrifty : HadMemory outcomes → (keys : List Key) → length keys ≤ memo_capacity
+      → HoldRunUses opening log keys lines outcomes → new ≤ old + length keys
+
+-- the text is the output of a run, and the count of evaluations went from `old` to `new` for it
+pub record IsCountedReplay (bytes text : List ℕ) (old new : ℕ) : Type 0 where
+  pub output : IsReplayOutput bytes text
+  pub counted
+      : IsCountedRun output.opening output.log output.lines output.outcomes old new
+
 -- how a replay counts evaluations, whatever it returns: from `old` to `new`
-pub record CountsReplay {T E : Type 0} (bytes : List ℕ) (old new : ℕ)
-    (result : Result T E) : Type 0 where
+pub record CountsReplay (bytes : List ℕ) (old new : ℕ) : Type 0 where
   pub never_falls : old ≤ new
-  -- those that the answers to the questions take
-  pub exact : (opening : Model) (lines : List ScriptLine) (outcomes : List Outcome)
-      (log : List LogEntry) (work : ℕ) → IsReplay bytes opening lines
-      → IsRun opening lines outcomes log → HadMemory outcomes
-      → AreWork opening log lines outcomes work → OnOk result (new ≡ counted old work)
-  -- when out of memory: no more than may be made for the lines, some of which may be done then
+  -- no more than may be made for the lines
   pub most : (opening : Model) (lines : List ScriptLine) → IsReplay bytes opening lines
       → RisesUpTo old new (length lines * most_evaluations)
   -- where the bytes are no file: none
   pub none : ((opening : Model) (lines : List ScriptLine) → IsReplay bytes opening lines → ⊥)
       → new ≡ old
 
--- ---- the reply to a line, in the bytes of an output
+-- ---- the replies, in the bytes of an output
+
+-- the text is that of a lawful outcome of the sessions of these lines, and each line has its reply
+-- in it
+pub record IsLawfulText (opening : Model) (lines : List ScriptLine) (text : List ℕ) : Type 0 where
+  pub log : List LogEntry
+  pub transcripts : List (List Reply)
+  pub lawful : IsLegal opening (sessions_of lines) log transcripts
+  pub printed : text ≡ output_text log transcripts
+  pub each_line : (session place : ℕ) (commands : List Command) (c : Command)
+      → slice_get (sessions_of lines) session ≡ Some commands → slice_get commands place ≡ Some c
+      → (replies : List Reply) × (reply : Reply) × (slice_get transcripts session ≡ Some replies)
+      × (slice_get replies place ≡ Some reply)
 
 -- the bytes are a file of this model and a script, and the text is that of a lawful outcome of its
 -- sessions with this log. In it this is the reply to this command, which stands at a place of a

@@ -2,15 +2,19 @@
 -- in a source and held by a sink these definitions speak where they are known. `left` and `left'`
 -- are those before and after the run, `reads` and `reads'` the counts of failed reads; `held`,
 -- `held'`, `writes` and `writes'` the same of the sink.
-use Rattle.std.specs.Prelude.{◌≡◌, ℕ, ◌<◌, ◌≤◌, ◌⊎◌, List, length, Option}
+use Rattle.std.specs.Prelude.{◌≡◌, ℕ, ◌<◌, ◌≤◌, ◌⊎◌, List, [], length, Option}
 use Rattle.std.specs.Io.KnownBytes.{Appends, Consumes, IsAtEnd, Keeps}
 use Rattle.solid_base.specs.Ledgers.{counted}
 use Rattle.solid_io.specs.Causes.{SameKnown}
 use Rattle.solid_top.specs.declared.statuses.Status.{Status}
 use Rattle.solid_top.specs.declared.statuses.Status.TheVariants as status
 use Rattle.solid_top.specs.declared.commands.Command.{Command}
+use Rattle.solid_top.specs.declared.commands.Command.TheVariants as command
 use Rattle.solid_top.specs.Statuses.{failures_after}
-use Rattle.solid_top.specs.Commands.{Names, IsCommand, Answers, usage_text, too_long_text}
+use Rattle.solid_top.specs.Commands.{Names, IsCommand, IsReader, TakesInput, Answers, IsDueAnswer}
+use Rattle.solid_top.specs.Commands.{IsLackingOutputOf}
+use Rattle.solid_top.specs.Commands.{usage_text, too_long_text}
+use Rattle.solid_top.specs.Serve.{IsServed}
 use Rattle.solid_top.specs.Streams.{AppendsFront, IsLongRead, IsShortRead, most_bytes}
 
 -- the input was read to its end, at most 2^25 bytes, and these are its bytes
@@ -19,18 +23,25 @@ pub record IsInput (left left' : Option (List ℕ)) (bytes : List ℕ) : Type 0 
   pub end : IsAtEnd left'
   pub fits : length bytes ≤ most_bytes
 
--- the words are a command, the input was read, and this is what the command answers to it
+-- what a command has of the input: all of it, or nothing, and then nothing was read
+abbrev pub IsInputOf : Command → Option (List ℕ) → Option (List ℕ) → List ℕ → Type 0
+IsInputOf command.Check left left' bytes = IsInput left left' bytes
+IsInputOf command.Replay left left' bytes = IsInput left left' bytes
+IsInputOf command.Serve left left' bytes = IsInput left left' bytes
+IsInputOf (command.Load n) left left' bytes = Keeps left left' × (bytes ≡ [])
+
+-- the words are a command, this is what it has of the input, and what it answers to that
 pub record ComesOf (words : List (List ℕ)) (left left' : Option (List ℕ)) (s : Status)
     (text : List ℕ) : Type 0 where
   pub named : Command
   pub words_are : Names words named
   pub bytes : List ℕ
-  pub input : IsInput left left' bytes
+  pub input : IsInputOf named left left' bytes
   pub answers : Answers named bytes s text
 
 -- the status and the text that a run comes to, before it writes: a usage line where the words are
--- no command, and then nothing is read; TOO LONG where more than 2^25 bytes were read; else the
--- answers to the input, or its refusal
+-- no command, and then nothing is read; TOO LONG where more than 2^25 bytes were read; else what
+-- the command answers to the input, or its refusal
 abbrev pub Comes : List (List ℕ) → Option (List ℕ) → Option (List ℕ) → Status → List ℕ → Type 0
 Comes words left left' status.Done text = ComesOf words left left' status.Done text
 Comes words left left' status.Usage text =
@@ -40,7 +51,7 @@ Comes words left left' status.Memory text = ⊥
 Comes words left left' status.ReadFault text = ⊥
 Comes words left left' status.WriteFault text = ⊥
 Comes words left left' status.TooLong text =
-    IsCommand words × IsLongRead left left' × (text ≡ too_long_text)
+    IsReader words × IsLongRead left left' × (text ≡ too_long_text)
 
 -- a text was written whole, with its status; or a write failed, and a front of it was
 abbrev pub Finishes
@@ -60,12 +71,12 @@ Writes words left left' held held' s =
 -- written
 abbrev pub Stops
     : List (List ℕ) → Option (List ℕ) → Option (List ℕ) → Option (List ℕ) → Option (List ℕ) → Type 0
-Stops words left left' held held' = IsCommand words × IsShortRead left left' × Keeps held held'
+Stops words left left' held held' = IsReader words × IsShortRead left left' × Keeps held held'
 
--- a run was out of memory over its words: nothing was read, and nothing was written
-abbrev pub StopsAtWords
+-- a run was out of memory and had read nothing, and nothing was written
+abbrev pub StopsUnread
     : Option (List ℕ) → Option (List ℕ) → Option (List ℕ) → Option (List ℕ) → Type 0
-StopsAtWords left left' held held' = Keeps left left' × Keeps held held'
+StopsUnread left left' held held' = Keeps left left' × Keeps held held'
 
 -- how a run ends: when out of memory or a read failed nothing is written, and where the words are
 -- no command nothing is read; after a failed write a front of the text is written; else the whole
@@ -74,7 +85,7 @@ abbrev pub Ends
     : List (List ℕ) → Option (List ℕ) → Option (List ℕ) → Option (List ℕ) → Option (List ℕ) → Status
     → Type 0
 Ends words left left' held held' status.Memory =
-    StopsAtWords left left' held held' ⊎ Stops words left left' held held'
+    StopsUnread left left' held held' ⊎ Stops words left left' held held'
 Ends words left left' held held' status.ReadFault = Stops words left left' held held'
 Ends words left left' held held' status.WriteFault =
     (s : Status) × (text : List ℕ) × Comes words left left' s text × AppendsFront held held' text
@@ -95,19 +106,51 @@ pub record IsRun (words : List (List ℕ)) (left left' : Option (List ℕ)) (rea
 
 -- ---- an input that is known whole
 
--- the status and the text that are due to an input: a usage line where the words are no command,
--- TOO LONG where there are more than 2^25 bytes, and else what the command answers
+-- a command doesn't read the bytes, or they are at most 2^25
+abbrev pub Fits : Command → List ℕ → Type 0
+Fits c bytes = TakesInput c → length bytes ≤ most_bytes
+
+-- the status and the text that are due to an input, where any are: a usage line where the words are
+-- no command, TOO LONG where a command reads more than 2^25 bytes, and else what the command
+-- answers where there is memory for each line; to `serve` over a file none are
 abbrev pub IsDue : List (List ℕ) → List ℕ → Status → List ℕ → Type 0
 IsDue words bytes s text =
     ((IsCommand words → ⊥) × (s ≡ status.Usage) × (text ≡ usage_text))
-    ⊎ ((IsCommand words × (most_bytes < length bytes) × (s ≡ status.TooLong)
+    ⊎ ((IsReader words × (most_bytes < length bytes) × (s ≡ status.TooLong)
     × (text ≡ too_long_text))
-    ⊎ ((c : Command) × Names words c × (length bytes ≤ most_bytes) × Answers c bytes s text))
+    ⊎ ((c : Command) × Names words c × Fits c bytes × IsDueAnswer c bytes s text))
 
--- how a run ends to which this status and text are due: with them, the text written whole; with
--- WriteFault, and a front of it; or with Memory or ReadFault, and nothing
-abbrev pub EndsDue : Option (List ℕ) → Option (List ℕ) → Status → List ℕ → Status → Type 0
-EndsDue held held' s text result =
-    ((result ≡ s) × Appends held held' text)
-    ⊎ (((result ≡ status.WriteFault) × AppendsFront held held' text)
+-- the text answers an input for some of whose lines there wasn't memory
+abbrev pub IsLacking : List (List ℕ) → List ℕ → List ℕ → Type 0
+IsLacking words bytes text =
+    (c : Command) × Names words c × Fits c bytes × IsLackingOutputOf c bytes text
+
+-- the status and the text to which a run comes where `s` and `text` are due: these, or Done and a
+-- text that says for which lines there wasn't memory
+abbrev pub ComesNear
+    : List (List ℕ) → List ℕ → Status → List ℕ → Status → List ℕ → Type 0
+ComesNear words bytes s text t other =
+    ((t ≡ s) × (other ≡ text)) ⊎ ((t ≡ status.Done) × IsLacking words bytes other)
+
+-- how a run ends to which this status and text are due: it comes to them, or to a text that says
+-- for which lines there wasn't memory, and the text is written whole, or it ends with WriteFault,
+-- and a front of it; or it ends with Memory or ReadFault, and nothing
+abbrev pub EndsDue : List (List ℕ) → List ℕ → Option (List ℕ) → Option (List ℕ) → Status → List ℕ
+    → Status → Type 0
+EndsDue words bytes held held' s text result =
+    ((other : List ℕ) × ComesNear words bytes s text result other × Appends held held' other)
+    ⊎ (((result ≡ status.WriteFault) × (t : Status) × (other : List ℕ)
+    × ComesNear words bytes s text t other × AppendsFront held held' other)
+    ⊎ (((result ≡ status.Memory) ⊎ (result ≡ status.ReadFault)) × Keeps held held'))
+
+-- ---- serving
+
+-- how a run of `serve` ends on these bytes: it comes to the output of a lawful outcome of their
+-- sessions, or to their refusal, and the text is written whole; or it ends with WriteFault, and a
+-- front of such a text; or with Memory or ReadFault, and nothing
+abbrev pub EndsServed : List ℕ → Option (List ℕ) → Option (List ℕ) → Status → Type 0
+EndsServed bytes held held' result =
+    ((text : List ℕ) × IsServed bytes result text × Appends held held' text)
+    ⊎ (((result ≡ status.WriteFault) × (s : Status) × (text : List ℕ)
+    × IsServed bytes s text × AppendsFront held held' text)
     ⊎ (((result ≡ status.Memory) ⊎ (result ≡ status.ReadFault)) × Keeps held held'))

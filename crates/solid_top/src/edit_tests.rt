@@ -80,17 +80,19 @@ const REWRITTEN: [(usize, &str); 6] = [
     ),
 ];
 
-/// What is expected of lines after a file of these entities.
+/// What is expected of lines after a file of these entities: the text, and how often primitives are
+/// evaluated.
 fn expect_lines(
     rt: &impl Abort,
     alloc: Global,
     records: &[Record],
     lines: &str,
     text: &str,
+    count: u64,
 ) -> Result<(), AllocError> {
     let mut input = file_of(rt, alloc, records)?;
     input.extend_from_slice(lines.as_bytes())?;
-    expect_replay(rt, alloc, input.as_slice(), Status::Done, text, 6)
+    expect_replay(rt, alloc, input.as_slice(), Status::Done, text, count)
 }
 
 #[test]
@@ -106,6 +108,7 @@ fn edits_are_made_and_refused(rt: HostRuntime) -> Result<(), AllocError> {
          @2 point 5 3.5 0 0\n",
         "LOG 2\n1 @2 2\n2 @1 4\n@1 4\n0 INSIDE\n- STAGED 1\n1 OUTSIDE\n2 COMMITTED\n@2 3\n\
          - STAGED 1\n1 COMMITTED\n2 INSIDE\nEND\n",
+        5,
     )?;
     // A batch of which one change is faulty makes nothing. A number that is staged again counts
     // once.
@@ -117,6 +120,7 @@ fn edits_are_made_and_refused(rt: HostRuntime) -> Result<(), AllocError> {
          @1 newest\n@1 drop 5\n@1 drop 5\n@1 point 5 1.5 0 0\n@1 commit\n@1 point 5 0 0 0\n",
         "LOG 1\n1 @1 8\n@1 9\n- STAGED 1\n- STAGED 2\n0 REFUSED BadRecord 3 BadSize 1\n0 NEWEST\n\
          - STAGED 1\n- STAGED 1\n0 OUTSIDE\n1 COMMITTED\n1 REFUSED NoEntity 5\nEND\n",
+        2,
     )?;
     // Each kind of fault of a commit, and one that is made after it.
     expect_lines(
@@ -128,7 +132,44 @@ fn edits_are_made_and_refused(rt: HostRuntime) -> Result<(), AllocError> {
         "LOG 2\n1 @1 7\n2 @1 10\n@1 10\n- STAGED 1\n0 REFUSED Cycle 5\n- STAGED 1\n\
          0 REFUSED InUse 1 5\n0 REFUSED EmptyBatch\n- STAGED 1\n1 COMMITTED\n\
          1 REFUSED NoEntity 7\n- STAGED 1\n2 COMMITTED\nEND\n",
+        0,
     )
+}
+
+#[test]
+fn what_is_known_is_not_evaluated_again(rt: HostRuntime) -> Result<(), AllocError> {
+    let alloc = rt.alloc();
+    let cases = [
+        // The same point twice, by one session and by two.
+        (
+            "@1 point 5 0 0 0\n@1 point 5 0 0 0\n",
+            "LOG 0\n@1 2\n0 INSIDE\n0 INSIDE\nEND\n",
+            2,
+        ),
+        (
+            "@1 point 5 0 0 0\n@2 live point 5 0 0 0\n",
+            "LOG 0\n@1 1\n0 INSIDE\n@2 1\n0 INSIDE\nEND\n",
+            2,
+        ),
+        // After a commit that replaces one sphere, that sphere alone.
+        (
+            "@1 point 5 0 0 0\n@1 point 5 0 0 0\n@2 replace 1 158 0 0 158,1,9,0,0;\n@2 commit\n\
+             @1 point 5 0 0 0\n@1 point 5 0 0 0\n",
+            "LOG 1\n1 @2 2\n@1 4\n0 INSIDE\n0 INSIDE\n1 OUTSIDE\n1 OUTSIDE\n@2 2\n- STAGED 1\n\
+             1 COMMITTED\nEND\n",
+            3,
+        ),
+        // A refused commit changes nothing.
+        (
+            "@1 point 5 0 0 0\n@1 drop 1\n@1 commit\n@1 point 5 0 0 0\n",
+            "LOG 0\n@1 4\n0 INSIDE\n- STAGED 1\n0 REFUSED InUse 1 5\n0 INSIDE\nEND\n",
+            2,
+        ),
+    ];
+    for (lines, text, count) in cases {
+        expect_lines(&rt, alloc, &BALLS, lines, text, count)?;
+    }
+    Ok(())
 }
 
 /// What is expected of an export of the model of these lines: a file of these lines.

@@ -1,8 +1,9 @@
-ghost use Rattle.std.specs.Prelude.{◌≡◌, ℕ, List};
+ghost use Rattle.std.specs.Prelude.{◌≡◌, ◌≤◌, ℕ, List};
 ghost use Rattle.solid_top.specs.declared.commands.Command.{Command};
 ghost use Rattle.solid_top.specs.declared.statuses.Status.{Status};
 ghost use Rattle.solid_top.specs.Checks.{IsChecked};
 ghost use Rattle.solid_top.specs.Commands.{Names};
+ghost use Rattle.solid_top.specs.Load.{IsLoadOutput};
 ghost use Rattle.solid_top.specs.Run.{IsDue};
 
 /// A law on all bytes: a check answers them, with one status and one text.
@@ -21,4 +22,10 @@ pub fn one_command()
 pub fn one_end()
     ensures { (words : List (List ℕ)) (bytes : List ℕ) (s t : Status) (a b : List ℕ) →
         IsDue words bytes s a → IsDue words bytes t b → (s ≡ t) × (a ≡ b) }
+{}
+
+/// A law on the inputs that `load` makes: where there is memory for each line, they have one text.
+pub fn one_load()
+    ensures some { (n : ℕ) → 1 ≤ n → n ≤ 1000 → (text : List ℕ) × IsLoadOutput n text }
+    ensures once { (n : ℕ) (a b : List ℕ) → IsLoadOutput n a → IsLoadOutput n b → a ≡ b }
 {}

@@ -1,9 +1,7 @@
 ghost use Rattle.std.specs.Prelude.{◌≡◌, ◌≤◌, ◌*◌, ◌^◌, ◌++◌, ℕ, List, [], length, codes, decimal};
-ghost use Rattle.std.specs.Prelude.{◌<◌, ◌+◌, ℤ, suc, slice_get, get_or, set, Some, IfOk, OnOk};
+ghost use Rattle.std.specs.Prelude.{◌<◌, ◌+◌, ℤ, suc, get_or, set, Some, IfOk, OnOk};
 ghost use Rattle.std.specs.List.{AllByRecursion};
-ghost use Rattle.solid_base.specs.Ledgers.{counted, RisesUpTo};
-ghost use Rattle.solid_base.specs.declared.replies.Reply.{Reply};
-ghost use Rattle.script_lines.specs.declared.commands.Command.{Command};
+ghost use Rattle.solid_base.specs.Ledgers.{RisesUpTo};
 ghost use Rattle.script_lines.specs.declared.commands.ScriptLine.{ScriptLine};
 ghost use Rattle.script_lines.specs.Grammar.{most_sessions};
 ghost use Rattle.solid_base.specs.declared.entities.Model.{Model};
@@ -19,33 +17,32 @@ ghost use Rattle.solid_questions.specs.Bodies.{bounds_words, volume_words};
 ghost use Rattle.solid_questions.specs.QuestionCells.{all_cells, section_cell};
 ghost use Rattle.script_lines.specs.Scripts.{HasRecordWithin, IsLawfulLine, IsScript};
 ghost use Rattle.iges_parameters.specs.Accepted.{IsAccepted};
-ghost use Rattle.edit_core.specs.Versions.{LogEntry};
-ghost use Rattle.solid_desk.specs.Desks.{IsLineDone};
-ghost use Rattle.solid_desk.specs.InOrder.{IsRun, HadMemory};
-ghost use Rattle.solid_desk.specs.Legal.{IsLegal};
+ghost use Rattle.ask_core.specs.Books.{IsBook};
+ghost use Rattle.solid_desk.specs.InOrder.{IsRun};
+ghost use Rattle.solid_desk.specs.Lines.{IsLineDone};
 ghost use Rattle.solid_desk.specs.Outcomes.{Outcome};
-ghost use Rattle.solid_desk.specs.Sessions.{Standing, sessions_of};
-ghost use Rattle.solid_desk.specs.Work.{AreWork};
+ghost use Rattle.solid_desk.specs.Sessions.{Standing};
 ghost use Rattle.solid_top.specs.declared.statuses.Status.{Status};
-ghost use Rattle.solid_top.specs.Output.{output_text};
-ghost use Rattle.solid_top.specs.Replay.{CountsReplay, IsAnswerIn, IsReplay, IsReplayed, IsReplyIn};
+ghost use Rattle.solid_top.specs.Replay.{CountsReplay, IsAnswerIn, IsCountedReplay, IsCountedRun};
+ghost use Rattle.solid_top.specs.Replay.{IsLawfulText, IsReplay, IsReplayed};
 ghost use Rattle.solid_top.specs.Sessions.{KeepAll, no_replies, with_reply};
 
 use crate::faults::of_file;
 use crate::outputs::{Output, refused};
 use crate::sessions::{Transcript, new_sessions, output_text};
 use crate::statuses::Status;
+use ask_core::Book;
 use ask_core::laws::{boxes, extents, points, sections, volumes};
 use iges_file::read_file;
 use script_lines::{ScriptLine, ScriptReader};
 use solid_base::Ledger;
-use solid_desk::Desk;
+use solid_desk::do_line;
 use std::alloc::{AllocError, Global};
 
-/// Does a line, and keeps its reply with those of its session.
-fn do_line<L: Ledger>(
+/// Does a line over a book, and keeps its reply with those of its session.
+fn do_next<L: Ledger>(
     alloc: Global,
-    desk: &mut Desk,
+    book: &mut Book,
     sessions: &mut [Transcript],
     line: ScriptLine,
     leaves: &mut L,
@@ -54,18 +51,20 @@ fn do_line<L: Ledger>(
     requires record { HasRecordWithin (2 ^ 25) line.command }
     requires size { length sessions.now ≡ most_sessions + 1 }
     requires count { (get_or sessions.now line.session no_replies).count + 1 < 2 ^ 32 }
-    requires room { (get_or sessions.now line.session no_replies).stands.line + 1 < 2 ^ 32 }
-    ensures done { OnOk result ((text : List ℕ) × (count : ℕ) × (after : Standing) ×
-        IsLineDone desk.old desk.new line.session
-        (get_or sessions.old line.session no_replies).stands after line.command text count ×
-        (sessions.new ≡ set sessions.old line.session
-        (with_reply (get_or sessions.old line.session no_replies) after text)) ×
-        (L.count leaves.new ≡ counted (L.count leaves.old) count)) }
+    requires room { (get_or sessions.now line.session no_replies).stands.line < 2 ^ 32 }
+    ensures done { OnOk result ((text : List ℕ) × (after : Standing) ×
+        IsLineDone book.old book.new line.session
+        (get_or sessions.old line.session no_replies).stands after line.command text
+        (L.count leaves.old) (L.count leaves.new) × (sessions.new ≡ set sessions.old line.session
+        (with_reply (get_or sessions.old line.session no_replies) after text))) }
     ensures light { RisesUpTo (L.count leaves.old) (L.count leaves.new) most_evaluations }
+    ensures valid { IsBook book.old }
 {
+    book.obeys();
     let session = &mut sessions[line.session as usize];
-    desk.do_line(
+    do_line(
         alloc,
+        book,
         line.session,
         &mut session.stands,
         line.command,
@@ -76,31 +75,33 @@ fn do_line<L: Ledger>(
     Ok(())
 }
 
-/// Does the lines of a script one after the other, and gives the replies of each session.
+/// Does the lines of a script one after the other over a new book, and gives the replies of each
+/// session.
 fn do_script<L: Ledger>(
     alloc: Global,
-    desk: &mut Desk,
+    book: &mut Book,
     script: &[u8],
     leaves: &mut L,
 ) -> Result<Vec<Transcript>, AllocError>
-    requires start { desk.now.log ≡ [] }
+    requires start { book.now.log ≡ [] }
+    requires empty { book.now.memo.entries ≡ [] }
     requires few { length script.now ≤ 2 ^ 25 }
     ensures done { IfOk result (λ sessions. (lines : List ScriptLine) ×
-        (outcomes : List Outcome) × (work : ℕ) × IsScript script.now lines ×
+        (outcomes : List Outcome) × IsScript script.now lines ×
         AllByRecursion IsLawfulLine lines ×
-        IsRun desk.old.opening lines outcomes desk.new.log × HadMemory outcomes ×
-        KeepAll sessions.items lines outcomes ×
-        AreWork desk.old.opening desk.new.log lines outcomes work ×
-        (length desk.new.log ≤ length script.now) ×
-        (L.count leaves.new ≡ counted (L.count leaves.old) work)) }
+        IsRun book.old.opening lines outcomes book.new.log ×
+        KeepAll sessions.items lines outcomes × IsCountedRun book.old.opening book.new.log lines
+        outcomes (L.count leaves.old) (L.count leaves.new) ×
+        (length book.new.log ≤ length script.now)) }
     ensures most { (lines : List ScriptLine) → IsScript script.now lines →
         RisesUpTo (L.count leaves.old) (L.count leaves.new) (length lines * most_evaluations) }
 {
     let mut sessions = new_sessions(alloc)?;
     let mut reader = ScriptReader::new(script);
     while let Some(line) = reader.next(alloc)? {
-        do_line(alloc, desk, &mut sessions, line, leaves)?;
+        do_next(alloc, book, &mut sessions, line, leaves)?;
     }
+    book.obeys();
     Ok(sessions)
 }
 
@@ -112,31 +113,36 @@ fn answer_bytes<L: Ledger>(
 ) -> Result<Output, AllocError>
     requires { length bytes.now ≤ 2 ^ 25 }
     ensures replayed { IfOk result (λ out. IsReplayed bytes.now out.status out.text) }
+    ensures counted { IfOk result (λ out. out.status ≡ Status.Done →
+        IsCountedReplay bytes.now out.text (L.count leaves.old) (L.count leaves.new)) }
+    ensures ledger { CountsReplay bytes.now (L.count leaves.old) (L.count leaves.new) }
     ensures lawful { IfOk result (λ out. (opening : Model) (lines : List ScriptLine) →
         IsReplay bytes.now opening lines →
         IsAccepted opening × AllByRecursion IsLawfulLine lines) }
-    ensures ledger { CountsReplay bytes.now (L.count leaves.old) (L.count leaves.new) result }
 {
     let read = match read_file(alloc, bytes) {
         Ok(read) => read,
         Err(fault) => return refused(alloc, of_file(fault)?),
     };
-    let mut desk = Desk::open(alloc, read.model, read.graph)?;
-    let sessions = do_script(alloc, &mut desk, &bytes[read.end..], leaves)?;
+    let mut book = Book::start_with_graph(alloc, read.model, read.graph)?;
+    let sessions = do_script(alloc, &mut book, &bytes[read.end..], leaves)?;
     Ok(Output {
         status: Status::Done,
-        text: output_text(alloc, desk.log(), &sessions)?,
+        text: output_text(alloc, book.log(), &sessions)?,
     })
 }
 
 /// Does the lines of the script after a file, of at most 2^25 bytes in all, in the order of the
-/// input: each question, live or not, is answered by the newest version; a commit makes the next
-/// version, or says why it isn't made. A line that is no command is answered by its fault. The text
-/// has the log of the commits, and the replies of each session that has a line.
+/// input over one book: each question, live or not, is answered by the newest version; a commit
+/// makes the next version, or says why it isn't made. A line that is no command is answered by its
+/// fault, and one for which there isn't enough memory by `MEMORY`: it does nothing, but that a
+/// commit leaves nothing staged. The text has the log of the commits, and the replies of each
+/// session that has a line.
 ///
 /// Bytes that are no file are refused with their first fault. The ledger counts the evaluations of
-/// primitives: none for bytes that are no file; when out of memory, those of some first lines may
-/// have been made. AllocError comes when out of memory.
+/// primitives: none for bytes that are no file; for a script at most those of answers afresh, and
+/// one alone for each entity, stamp and box where the book's memo has room for all. AllocError
+/// comes when out of memory; those of some first lines may then have been made.
 pub fn replay_run<L: Ledger>(
     alloc: Global,
     bytes: &[u8],
@@ -144,19 +150,14 @@ pub fn replay_run<L: Ledger>(
 ) -> Result<Output, AllocError>
     requires { length bytes.now ≤ 2 ^ 25 }
     ensures replayed { IfOk result (λ out. IsReplayed bytes.now out.status out.text) }
-    ensures ledger { CountsReplay bytes.now (L.count leaves.old) (L.count leaves.new) result }
+    ensures counted { IfOk result (λ out. out.status ≡ Status.Done →
+        IsCountedReplay bytes.now out.text (L.count leaves.old) (L.count leaves.new)) }
+    ensures ledger { CountsReplay bytes.now (L.count leaves.old) (L.count leaves.new) }
 
     // The text is that of a lawful outcome of the sessions, and each line has its reply in it.
     ensures legal { IfOk result (λ out. out.status ≡ Status.Done → (opening : Model)
         (lines : List ScriptLine) → IsReplay bytes.now opening lines →
-        (log : List LogEntry) × (transcripts : List (List Reply)) ×
-        IsLegal opening (sessions_of lines) log transcripts ×
-        (out.text ≡ output_text log transcripts)) }
-    ensures each_line { IfOk result (λ out. out.status ≡ Status.Done → (opening : Model)
-        (lines : List ScriptLine) (session place : ℕ) (commands : List Command) (c : Command) →
-        IsReplay bytes.now opening lines → slice_get (sessions_of lines) session ≡ Some commands →
-        slice_get commands place ≡ Some c → (log : List LogEntry) × (reply : Reply) ×
-        IsReplyIn bytes.now out.text opening log session place c reply) }
+        IsLawfulText opening lines out.text) }
 
     // What the replies to points and boxes mean, by the rows of the version that they name.
     ensures inside { IfOk result (λ out. (model : Model) (e : ℕ) (at : Vec3) →

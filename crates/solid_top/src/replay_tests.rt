@@ -44,22 +44,21 @@ pub fn file_of(rt: &impl Abort, alloc: Global, records: &[Record]) -> Result<Byt
     Ok(file)
 }
 
-/// What is expected of an input: its status, its text, and how often primitives are evaluated at
-/// most.
+/// What is expected of an input: its status, its text, and how often primitives are evaluated.
 pub fn expect_replay(
     rt: &impl Abort,
     alloc: Global,
     input: &[u8],
     status: Status,
     text: &str,
-    most: u64,
+    count: u64,
 ) -> Result<(), AllocError> {
     assert!(rt; input.len() < 10_000);
     let mut tally = Tally { count: 0 };
     let output = replay_run(alloc, input, &mut tally)?;
     assert_eq!(rt; output.text.as_slice(), text.as_bytes(), "{text}");
     assert_eq!(rt; output.status, status, "{text}");
-    assert!(rt; tally.count <= most, "{text}");
+    assert_eq!(rt; tally.count, count, "{text}");
     Ok(())
 }
 
@@ -70,7 +69,7 @@ fn expect_answer(
     file: &Bytes,
     point: &str,
     answer: &str,
-    most: u64,
+    count: u64,
 ) -> Result<(), AllocError> {
     let mut input = Bytes::new(alloc);
     input.extend_from_slice(file.as_slice())?;
@@ -78,7 +77,7 @@ fn expect_answer(
         input.extend_from_slice(part.as_bytes())?;
     }
     let text = format!(in alloc; "LOG 0\n@1 1\n0 {answer}\nEND\n")?;
-    expect_replay(rt, alloc, input.as_slice(), Status::Done, &text, most)
+    expect_replay(rt, alloc, input.as_slice(), Status::Done, &text, count)
 }
 
 #[test]
@@ -195,10 +194,10 @@ fn points_on_a_sphere_are_answered(rt: HostRuntime) -> Result<(), AllocError> {
             0,
         ),
     ];
-    for (lines, text, most) in cases {
+    for (lines, text, count) in cases {
         let mut input = file_of(&rt, alloc, &[(158, 0, "158,1.0,0.0,0.0,0.0;")])?;
         input.extend_from_slice(lines.as_bytes())?;
-        expect_replay(&rt, alloc, input.as_slice(), Status::Done, text, most)?;
+        expect_replay(&rt, alloc, input.as_slice(), Status::Done, text, count)?;
     }
     Ok(())
 }
@@ -223,7 +222,7 @@ const BALL_AT_2: &str = "158,1.,2.,0.,0.;";
 fn points_on_trees_are_answered(rt: HostRuntime) -> Result<(), AllocError> {
     let alloc = rt.alloc();
     // Two blocks that share the face at x = 1, what they make together, the first without itself,
-    // and what they share.
+    // which evaluates it once, and what they share.
     let records = [
         (150, 0, "150,1.,1.,1.;"),
         (150, 0, "150,1.,1.,1.,1.,0.,0.;"),
@@ -233,19 +232,19 @@ fn points_on_trees_are_answered(rt: HostRuntime) -> Result<(), AllocError> {
     ];
     let file = file_of(&rt, alloc, &records)?;
     let cases = [
-        ("5 0.5 0.5 0.5", "INSIDE"),
-        ("5 1.5 0.5 0.5", "INSIDE"),
-        ("5 1 0.5 0.5", "UNDECIDED 1"),
-        ("5 2 0.5 0.5", "UNDECIDED 3"),
-        ("5 2.5 0.5 0.5", "OUTSIDE"),
-        ("7 0.5 0.5 0.5", "OUTSIDE"),
-        ("7 1 0.5 0.5", "UNDECIDED 1"),
-        ("7 1.5 0.5 0.5", "OUTSIDE"),
-        ("9 0.5 0.5 0.5", "OUTSIDE"),
-        ("9 1 0.5 0.5", "UNDECIDED 1"),
+        ("5 0.5 0.5 0.5", "INSIDE", 2),
+        ("5 1.5 0.5 0.5", "INSIDE", 2),
+        ("5 1 0.5 0.5", "UNDECIDED 1", 2),
+        ("5 2 0.5 0.5", "UNDECIDED 3", 2),
+        ("5 2.5 0.5 0.5", "OUTSIDE", 2),
+        ("7 0.5 0.5 0.5", "OUTSIDE", 1),
+        ("7 1 0.5 0.5", "UNDECIDED 1", 1),
+        ("7 1.5 0.5 0.5", "OUTSIDE", 1),
+        ("9 0.5 0.5 0.5", "OUTSIDE", 2),
+        ("9 1 0.5 0.5", "UNDECIDED 1", 2),
     ];
-    for (point, answer) in cases {
-        expect_answer(&rt, alloc, &file, point, answer, 2)?;
+    for (point, answer, count) in cases {
+        expect_answer(&rt, alloc, &file, point, answer, count)?;
     }
     // Each point counts by itself.
     let mut input = file_of(
@@ -384,7 +383,7 @@ fn other_inputs_are_refused(rt: HostRuntime) -> Result<(), AllocError> {
         let mut input = file_of(&rt, alloc, records)?;
         input.extend_from_slice(lines.as_bytes())?;
         let text = format!(in alloc; "MODEL REFUSED {fault}\n")?;
-        expect_replay(&rt, alloc, input.as_slice(), Status::Refused, &text, 1)?;
+        expect_replay(&rt, alloc, input.as_slice(), Status::Refused, &text, 0)?;
     }
     let text = "MODEL REFUSED NoTerminate\n";
     expect_replay(&rt, alloc, b"", Status::Refused, text, 0)?;
@@ -402,7 +401,7 @@ fn expect_body(
     file: &Bytes,
     question: &str,
     body: &str,
-    most: u64,
+    count: u64,
 ) -> Result<(), AllocError> {
     let mut input = Bytes::new(alloc);
     input.extend_from_slice(file.as_slice())?;
@@ -410,7 +409,7 @@ fn expect_body(
         input.extend_from_slice(part.as_bytes())?;
     }
     let text = format!(in alloc; "LOG 0\n@1 1\n0 {body}\nEND\n")?;
-    expect_replay(rt, alloc, input.as_slice(), Status::Done, &text, most)
+    expect_replay(rt, alloc, input.as_slice(), Status::Done, &text, count)
 }
 
 #[test]
@@ -478,8 +477,8 @@ fn each_question_is_answered(rt: HostRuntime) -> Result<(), AllocError> {
         (&parts, "items 9", "REFUSED NoEntity 9", 0),
         (&parts, "newest", "NEWEST", 0),
     ];
-    for (file, question, body, most) in cases {
-        expect_body(&rt, alloc, file, question, body, most)?;
+    for (file, question, body, count) in cases {
+        expect_body(&rt, alloc, file, question, body, count)?;
     }
     Ok(())
 }
@@ -516,8 +515,8 @@ fn a_bored_plate_is_answered(rt: HostRuntime) -> Result<(), AllocError> {
         ("section 11 0 0 0 0.001 257 256", "REFUSED TooLarge", 0),
         ("items 11", "ITEMS 1 11", 0),
     ];
-    for (question, body, most) in cases {
-        expect_body(&rt, alloc, &plate, question, body, most)?;
+    for (question, body, count) in cases {
+        expect_body(&rt, alloc, &plate, question, body, count)?;
     }
     Ok(())
 }
@@ -531,26 +530,30 @@ fn sessions_have_their_replies(rt: HostRuntime) -> Result<(), AllocError> {
             "hello\n@9 newest\n@1 pint\n@1 point 1 0 0\n@1 point 1 0 0 0 7\n",
             "LOG 0\n@0 2\n- REFUSED BadLine 1\n- REFUSED TooManySessions\n@1 3\n\
              - REFUSED UnknownCommand\n- REFUSED BadLine 15\n- REFUSED BadLine 18\nEND\n",
+            0,
         ),
         // Sessions come in order, and the lines of each in theirs.
         (
             "@8 newest\n@2 point 1 0 0 0\n@8 point 1 0 2 0\n@2 newest\n",
             "LOG 0\n@2 2\n0 INSIDE\n0 NEWEST\n@8 2\n0 NEWEST\n0 OUTSIDE\nEND\n",
+            2,
         ),
         // Blanks of each kind, skipped lines, both line ends, and a last line without one.
         (
             "\n \t\x1a\n@1\tpoint 1  0 0 0 \r\n@1 newest",
             "LOG 0\n@1 2\n0 INSIDE\n0 NEWEST\nEND\n",
+            1,
         ),
         (
             "@1 live newest\n@1 point 1 5e-1 0 .5\n",
             "LOG 0\n@1 2\n- REFUSED UnknownCommand\n0 INSIDE\nEND\n",
+            1,
         ),
     ];
-    for (lines, text) in cases {
+    for (lines, text, count) in cases {
         let mut input = file_of(&rt, alloc, &[(158, 0, BALL)])?;
         input.extend_from_slice(lines.as_bytes())?;
-        expect_replay(&rt, alloc, input.as_slice(), Status::Done, text, 2)?;
+        expect_replay(&rt, alloc, input.as_slice(), Status::Done, text, count)?;
     }
     Ok(())
 }

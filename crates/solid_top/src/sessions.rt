@@ -7,7 +7,7 @@ ghost use Rattle.solid_top.specs.Sessions.{KeepEach, Keeps, no_replies};
 
 use ask_core::{Commit, Commits};
 use solid_base::{Bytes, push_decimal};
-use solid_desk::Session;
+use solid_desk::{Session, push_version};
 use std::alloc::{AllocError, Global};
 
 /// A session while its lines are done: where it stands, and the replies to the lines that are done:
@@ -21,6 +21,12 @@ pub struct Transcript {
 
 /// How many sessions there are: that of the lines that name none, and eight others.
 const SESSIONS: u32 = 9;
+
+/// How many bytes are set aside for the line of a commit.
+const LOG_LINE: usize = 24;
+
+/// How many bytes are set aside for the line of a session.
+const SESSION_LINE: usize = 24;
 
 /// The sessions, of which none has a reply yet.
 pub fn new_sessions(alloc: Global) -> Result<Vec<Transcript>, AllocError>
@@ -39,10 +45,10 @@ pub fn new_sessions(alloc: Global) -> Result<Vec<Transcript>, AllocError>
 }
 
 /// Adds the line of a commit, which made this version.
-fn push_entry(out: &mut Bytes, version: u32, commit: &Commit) -> Result<(), AllocError>
+fn push_entry(out: &mut Bytes, version: u64, commit: &Commit) -> Result<(), AllocError>
     ensures { OnOk result (out.new ≡ out.old ++ entry_text version commit.now) }
 {
-    push_decimal(out, version)?;
+    push_version(out, version)?;
     out.extend_from_slice(b" @")?;
     push_decimal(out, commit.session)?;
     out.extend_from_slice(b" ")?;
@@ -51,16 +57,15 @@ fn push_entry(out: &mut Bytes, version: u32, commit: &Commit) -> Result<(), Allo
 }
 
 /// Adds the number of the commits, and the line of each.
-fn push_log(out: &mut Bytes, log: &[Commit]) -> Result<(), AllocError>
-    requires { length log.now < 2 ^ 32 }
+pub fn push_log(out: &mut Bytes, log: &[Commit]) -> Result<(), AllocError>
     ensures { OnOk result (out.new ≡ out.old ++ (codes "LOG " ++ (decimal (length log.now) ++
         (codes "\n" ++ log_text 1 log.now)))) }
 {
     out.extend_from_slice(b"LOG ")?;
-    push_decimal(out, log.len() as u32)?;
+    push_version(out, log.len() as u64)?;
     out.extend_from_slice(b"\n")?;
     for place in 0..log.len() {
-        push_entry(out, place as u32 + 1, &log[place])?;
+        push_entry(out, place as u64 + 1, &log[place])?;
     }
     Ok(())
 }
@@ -81,19 +86,35 @@ fn push_session(out: &mut Bytes, number: u32, session: &Transcript) -> Result<()
     out.extend_from_slice(session.text.as_slice())
 }
 
+/// How much room is set aside for the text of a run: that of the replies, and some for the lines
+/// before them and for each commit.
+fn room(log: &[Commit], sessions: &[Transcript]) -> usize {
+    let mut room = log
+        .len()
+        .saturating_mul(LOG_LINE)
+        .saturating_add(SESSION_LINE);
+    for session in sessions {
+        room = room
+            .saturating_add(session.text.len())
+            .saturating_add(SESSION_LINE);
+    }
+    room
+}
+
 /// The text of a run with this log, and with these replies of the sessions from 0 on.
 pub fn output_text(
     alloc: Global,
     log: &Commits,
     sessions: &[Transcript],
 ) -> Result<Bytes, AllocError>
-    requires log { length log.now < 2 ^ 32 }
     requires sessions { length sessions.now < 2 ^ 32 }
     ensures { IfOk result (λ text. (transcripts : List (List Reply)) →
         KeepEach sessions.now transcripts → text ≡ output_text log.now transcripts) }
 {
+    let commits = log.as_slice();
     let mut text = Bytes::new(alloc);
-    push_log(&mut text, log.as_slice())?;
+    text.reserve(room(commits, sessions))?;
+    push_log(&mut text, commits)?;
     for number in 0..sessions.len() {
         push_session(&mut text, number as u32, &sessions[number])?;
     }

@@ -239,13 +239,14 @@ const NEVER: u32 = u32::MAX;
 
 /// The commands, each with what it answers to a sphere with one point after it, and the first ten
 /// bytes of that.
-const COMMANDS: [(&str, &str, &str); 2] = [
+const COMMANDS: [(&str, &str, &str); 3] = [
     (
         "check",
         "MODEL 1 READ 1 KEPT 0 NULL 0\nSCALE - UNITS - VERSION -\nROOT 1 1 1\nEND\n",
         "MODEL 1 RE",
     ),
     ("replay", "LOG 0\n@1 1\n0 INSIDE\nEND\n", "LOG 0\n@1 1"),
+    ("serve", "LOG 0\n@1 1\n0 INSIDE\nEND\n", "LOG 0\n@1 1"),
 ];
 
 /// A sphere with a point after it.
@@ -278,7 +279,7 @@ fn other_words_are_no_command(rt: HostRuntime) -> Result<(), AllocError> {
     let alloc = rt.alloc();
     let usage = "USAGE: solidd check, replay, serve or load N\n";
     for word in [
-        "", "Check", "checks", "replay ", "serve", "help", "-", "--", "-h", "--help",
+        "", "Check", "checks", "replay ", "Serve", "load", "help", "-", "--", "-h", "--help",
     ] {
         let ended = run_over(&rt, alloc, &[word], b"", 0, NEVER, 100)?;
         expect_run(&rt, &ended, Status::Usage, usage);
@@ -288,6 +289,13 @@ fn other_words_are_no_command(rt: HostRuntime) -> Result<(), AllocError> {
     for words in [
         ["check", "replay"],
         ["check", "7"],
+        ["load", "0"],
+        ["load", "1001"],
+        ["load", "00001"],
+        ["load", "1 "],
+        ["load", "+1"],
+        ["load", ""],
+        ["7", "load"],
         ["check", "--"],
         ["--", "check"],
     ] {
@@ -304,6 +312,25 @@ fn other_words_are_no_command(rt: HostRuntime) -> Result<(), AllocError> {
         100,
     )?;
     expect_run(&rt, &ended, Status::Usage, usage);
+    Ok(())
+}
+
+/// No call on the source is made: the first one would fail.
+#[test]
+fn generated_inputs_are_counted(rt: HostRuntime) -> Result<(), AllocError> {
+    let alloc = rt.alloc();
+    for (count, want) in [
+        ("1", "LOAD 1 INSIDE 1 OUTSIDE 1 UNDECIDED 0 COMMITS 1\n"),
+        ("007", "LOAD 7 INSIDE 7 OUTSIDE 1 UNDECIDED 0 COMMITS 1\n"),
+        ("11", "LOAD 11 INSIDE 11 OUTSIDE 2 UNDECIDED 0 COMMITS 2\n"),
+        (
+            "100",
+            "LOAD 100 INSIDE 100 OUTSIDE 10 UNDECIDED 0 COMMITS 10\n",
+        ),
+    ] {
+        let ended = run_over(&rt, alloc, &["load", count], b"", 0, NEVER, 100)?;
+        expect_run(&rt, &ended, Status::Done, want);
+    }
     Ok(())
 }
 

@@ -1,4 +1,4 @@
-use Rattle.solid_top.proofs.RunLaws.{usage_only, usage_else, unread, unwritten, long_only, long_else, ends_due}
+use Rattle.solid_top.proofs.RunLaws.{usage_only, usage_else, unread, unwritten, long_only, long_else, ends_due, ends_served}
 use Rattle.solid_top.proofs.program.run.Goals as goal
 
 pub returns-clause-usage : goal.returns-clause-usage
@@ -20,3 +20,6 @@ returns-clause-too_long g c known ok =
 pub returns-clause-due : goal.returns-clause-due
 returns-clause-due g c bytes known s text due =
     ends_due _ _ _ _ _ bytes known c.run_words.result s text c.run_words.ensures.ends due
+
+pub returns-clause-served : goal.returns-clause-served
+returns-clause-served g c bytes known few named = ends_served _ _ _ _ _ bytes known named few c.run_words.result c.run_words.ensures.ends

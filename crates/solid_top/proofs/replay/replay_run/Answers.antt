@@ -1,17 +1,11 @@
 use Rattle.std.proofs.Common.{refl, codes, ◌++◌}
 use Rattle.solid_questions.specs.declared.questions.Question.TheVariants as question
-use Rattle.solid_top.proofs.Meaning.{asked_lawful, each_replied, other_head, if_ok_both, if_ok_then, in_answer, lawful_text, rows_lawful}
+use Rattle.solid_top.proofs.Meaning.{asked_lawful, other_head, if_ok_both, if_ok_then, in_answer, lawful_text, rows_lawful}
 use Rattle.solid_top.proofs.replay.replay_run.Goals as goal
 
 pub returns-clause-legal : goal.returns-clause-legal
 returns-clause-legal g c =
     if_ok_both c.answer_bytes.result _ _ _ (λ out replayed lawful. λ done opening lines is. lawful_text c.args.bytes.now out replayed lawful done opening lines is) c.answer_bytes.ensures.replayed c.answer_bytes.ensures.lawful
-
-pub returns-clause-each_line : goal.returns-clause-each_line
-returns-clause-each_line g c =
-    if_ok_both c.answer_bytes.result _ _ _ (λ out replayed lawful. λ done opening lines session place commands command is of_session line_is.
-    each_replied c.args.bytes.now out.text opening lines (lawful_text c.args.bytes.now out replayed lawful done opening lines is) is session place commands command of_session line_is)
-    c.answer_bytes.ensures.replayed c.answer_bytes.ensures.lawful
 
 pub returns-clause-inside : goal.returns-clause-inside
 returns-clause-inside g c =

@@ -1,11 +1,11 @@
-use Rattle.std.proofs.Common.{◌≡◌, ◌++◌, rules, sym, add-one, subst, refl, ℕ, List, arith, length}
+use Rattle.std.proofs.Common.{◌≡◌, ◌++◌, ◌∙◌, rules, sym, add-one, subst, refl, ℕ, List, arith, length}
 use Rattle.solid_top.specs.Output.{log_text}
 use Rattle.solid_top.proofs.SessionLaws.{IsFront, log_head, log_front, front_start, front_push, front_ends}
 use Rattle.solid_top.proofs.sessions.output_text.Goals as goal
 
 pub loop-number-init : goal.loop-number-init
 loop-number-init c =
-    let front : c.push_log.new.out ≡ log_head c.args.log.now ++ log_text 1 c.args.log.now = log_front c.args.log.now c.new-text.result c.push_log.new.out c.new-text.ensures (rw c.as_slice.ensures at c.in_ok-push_log.ensures) in
+    let front : c.push_log.new.out ≡ log_head c.args.log.now ++ log_text 1 c.args.log.now = log_front c.args.log.now c.reserve.new.self c.push_log.new.out (c.reserve.ensures ∙ c.new-text.ensures) (rw c.as_slice-commits.ensures at c.in_ok-push_log.ensures) in
     subst (λ (t : List ℕ). IsFront (log_head c.args.log.now ++ log_text 1 c.args.log.now) c.args.sessions.now 0 t) (sym front) (front_start (log_head c.args.log.now ++ log_text 1 c.args.log.now) c.args.sessions.now)
 
 pub loop-number-preserved : goal.loop-number-preserved

@@ -4,8 +4,8 @@ use Rattle.solid_top.proofs.sessions.push_log.Goals as goal
 
 pub loop-place-init : goal.loop-place-init
 loop-place-init c =
-    log_start c.args.log.now c.args.out.now c.extend_from_slice.new.self c.push_decimal.new.words c.extend_from_slice-2.new.self
-    c.in_ok-extend_from_slice.ensures.ok c.in_ok-push_decimal.ensures.ok c.in_ok-extend_from_slice-2.ensures.ok
+    log_start c.args.log.now c.args.out.now c.extend_from_slice.new.self c.push_version.new.out c.extend_from_slice-2.new.self
+    c.in_ok-extend_from_slice.ensures.ok c.in_ok-push_version.ensures.ok c.in_ok-extend_from_slice-2.ensures.ok
 
 pub loop-place-preserved : goal.loop-place-preserved
 loop-place-preserved c =
