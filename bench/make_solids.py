@@ -1,8 +1,8 @@
 #!/usr/bin/env python3
-"""make_solids.py [--shape SHAPE] [--entities N] [--points M] [--seed S] > FILE
+"""make_solids.py [--shape SHAPE] [--entities N] [--points M] [--repeat K] [--seed S] > FILE
 
 Writes an IGES file of N entities that name each other, all by the rules of solidd, and after it M point
-questions, one a line: `@1 point E X Y Z`. The shapes:
+questions, each K times, one a line: `@1 point E X Y Z`. The shapes:
 
   mixed   primitives, matrices, Boolean trees, assemblies, instances and entities that aren't read, with
           points on all solids (the default)
@@ -180,6 +180,7 @@ def main():
     parser.add_argument("--shape", choices=list(SHAPES), default="mixed")
     parser.add_argument("--entities", type=int, default=10_000)
     parser.add_argument("--points", type=int, default=0)
+    parser.add_argument("--repeat", type=int, default=1)
     parser.add_argument("--seed", type=int, default=1)
     options = parser.parse_args()
     rng = random.Random(options.seed)
@@ -192,7 +193,8 @@ def main():
         near = places[number]
         at, size = rng.choice(near) if isinstance(near, list) else near
         where = [c + rng.uniform(-1.2, 1.2) * size for c in at]
-        sys.stdout.write("@1 point %d %s\n" % (number, " ".join(spell(c, 6) for c in where)))
+        line = "@1 point %d %s\n" % (number, " ".join(spell(c, 6) for c in where))
+        sys.stdout.write(line * options.repeat)
 
 
 if __name__ == "__main__":

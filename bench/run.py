@@ -1,11 +1,12 @@
 #!/usr/bin/env python3
-"""run.py [PROGRAM] [--yardstick PATH] [--runs K] [--only NAME]
+"""run.py [PROGRAM] [--yardstick PATH] [--engine ENGINE] [--runs K] [--only NAME]
 
 Times PROGRAM on generated inputs, turn by turn with another program that gives the same answers, the
 yardstick. Prints for each input both programs' best processor time (user and system), their peak memory
 and the ratios. Fails where an output or a status differs. With no yardstick there, times PROGRAM alone.
 The path of the yardstick comes from --yardstick, else from SOLIDD_YARDSTICK. It is run as
-`yardstick --stage 7 --engine plain COMMAND`, so that it evaluates each question anew and skips no operand.
+`yardstick --stage 9 --engine ENGINE COMMAND`, with the engine `plain`, which evaluates each
+question anew and skips no operand, where --engine names no other.
 """
 import argparse
 import filecmp
@@ -22,6 +23,7 @@ KINDS = ["block", "wedge", "cylinder", "cone", "sphere", "torus", "ellipsoid"]
 INPUTS = [
     ("check of 100,000 solids, matrices and others", "check", "make_solids.py", ["--entities", "100000"]),
     ("a tree of 1,000 moved primitives, 10,000 points", "replay", "make_solids.py", ["--shape", "tree", "--entities", "1000", "--points", "10000"]),
+    ("one point 10,000 times on a tree of 1,000", "replay", "make_solids.py", ["--shape", "tree", "--entities", "1000", "--points", "1", "--repeat", "10000"]),
     ("10,000 solids, matrices and others, 50,000 points", "replay", "make_solids.py", ["--entities", "10000", "--points", "50000"]),
     ("90,000 spheres, 250,000 points", "replay", "make_spheres.py", ["--spheres", "90000", "--points", "250000"]),
     ("10,000 mixed primitives, 200,000 points", "replay", "make_mixed.py", ["--points", "200000"]),
@@ -33,6 +35,7 @@ INPUTS = [
     ("1,000 commits over 10,000 spheres", "replay", "make_edits.py", []),
     ("1,000 commits over 100,000 spheres, 10 points after each", "replay", "make_edits.py", ["--spheres", "100000", "--points", "10"]),
     ("an export of 100,000 spheres", "replay", "make_edits.py", ["--spheres", "100000", "--commits", "0", "--export"]),
+    ("load 1000", "load 1000", None, []),
 ] + [
     ("10,000 of %s, 200,000 points" % kind, "replay", "make_mixed.py", ["--points", "200000", "--kinds", kind])
     for kind in KINDS
@@ -64,7 +67,10 @@ class Timing:
 
 
 def make_data(path, maker, options):
+    """The output of a maker, or nothing where there is none."""
     with open(path, "wb") as sink:
+        if maker is None:
+            return
         subprocess.run([sys.executable, os.path.join(HERE, maker)] + options, stdout=sink, check=True)
 
 
@@ -90,10 +96,10 @@ def time_input(folder, args, name, command, maker, options):
     """Times both programs on one input. Answers a message where they differ, else None."""
     data = os.path.join(folder, "input")
     make_data(data, maker, options)
-    program = Timing("solidd", [os.path.abspath(args.program), command])
+    program = Timing("solidd", [os.path.abspath(args.program)] + command.split())
     yardstick = None
     if os.access(args.yardstick, os.X_OK):
-        yardstick = Timing("yardstick", [os.path.abspath(args.yardstick), "--stage", "7", "--engine", "plain", command])
+        yardstick = Timing("yardstick", [os.path.abspath(args.yardstick), "--stage", "9", "--engine", args.engine] + command.split())
     problem = compare(folder, program, yardstick, args.runs)
     print("%s, %.1f MB, best of %d" % (name, os.path.getsize(data) / 1e6, args.runs))
     if problem is not None:
@@ -114,6 +120,7 @@ def main():
         "--yardstick",
         default=os.environ.get("SOLIDD_YARDSTICK", os.path.join(ROOT, "../shared/tools/yardstick")),
     )
+    parser.add_argument("--engine", default="plain")
     parser.add_argument("--runs", type=int, default=5)
     parser.add_argument("--only", default="")
     args = parser.parse_args()
