@@ -317,7 +317,8 @@ def missing_faults():
 
 def commands():
     text = read("crates/solid_top/specs/Commands.antt")
-    wanted = set(re.findall(r'^word_of [\w.]+ = codes "(\w+)"', text, re.M))
+    named = re.search(r"^Names words command.*?\n\n", text, re.M | re.S).group(0)
+    wanted = set(re.findall(r'codes "(\w+)"', named))
     given = re.search(r"^commands=\((.*)\)", read("solidd"), re.M).group(1).split()
     if wanted != set(given):
         yield "commands: the launcher has %s, the program %s" % (" ".join(given), " ".join(sorted(wanted)))
