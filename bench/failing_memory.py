@@ -95,6 +95,31 @@ def small_input():
     return ("".join(cards) + LINES).encode()
 
 
+def without_lost_batches(legal, data, text):
+    """The input and the text with the lines of each batch whose commit lacked memory made lines that are no
+    command: nothing of such a batch is left, while the judge takes the commit alone as not there."""
+    model, lines = legal.split_input(data, 8)
+    log, replies = legal.read_output(text)
+    for k in lines:
+        batch = []
+        for place, line in enumerate(lines[k]):
+            word = line.split()[1:2]
+            if word in ([b"replace"], [b"add"], [b"drop"]):
+                batch.append(place)
+            elif word == [b"commit"]:
+                if replies[k][place] == (None, b"MEMORY"):
+                    for lost in [*batch, place]:
+                        lines[k][lost], replies[k][lost] = b"@%d lost" % k, (None, b"REFUSED UnknownCommand")
+                batch = []
+    script = b"".join(line + b"\n" for k in sorted(lines) for line in lines[k])
+    told = b"LOG %d\n" % len(log) + b"".join(b"%d @%d %d\n" % (v, *entry) for v, entry in enumerate(log, 1))
+    for k in sorted(replies):
+        told += b"@%d %d\n" % (k, len(replies[k]))
+        for version, body in replies[k]:
+            told += (b"- " if version is None else b"%d " % version) + body + b"\n"
+    return model + script, told + b"END\n"
+
+
 def judge_of(tools):
     """What is wrong with a text, by legal.py; None where it isn't there."""
     if not os.path.exists(os.path.join(tools, "legal.py")):
@@ -104,7 +129,7 @@ def judge_of(tools):
 
     def judge(data, text):
         try:
-            legal.check(data, text, memory=True)
+            legal.check(*without_lost_batches(legal, data, text), 11, memory=True)
         except legal.Wrong as wrong:
             return str(wrong) or "not lawful"
         return None
