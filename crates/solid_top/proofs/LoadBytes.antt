@@ -1,13 +1,12 @@
 -- The generated input is read as its model and its script, and is no longer than an input may be.
-use Rattle.std.proofs.Common.{◌≡◌, ℕ, zero, suc, ◌+◌, ◌*◌, ◌/◌, ◌%◌, ◌==◌, ◌^◌, ◌<◌, ◌≤◌, Bool, true, false, cond, List, [], ◌∷◌, ◌++◌, length, drop, codes, decimal, pos, refl, sym, ap, subst, ◌∙◌, arith, length-append}
+use Rattle.std.proofs.Common.{◌≡◌, ℕ, zero, suc, ◌+◌, ◌*◌, ◌/◌, ◌%◌, ◌==◌, ◌^◌, ◌<◌, ◌≤◌, Bool, true, false, cond, List, [], ◌∷◌, ◌++◌, length, drop, codes, decimal, pos, refl, ap, subst, ◌∙◌, arith, length-append}
 use Rattle.std.specs.List.{flat_map, range_with_len}
 use Rattle.solid_base.specs.declared.entities.Model.{Model}
 use Rattle.solid_base.specs.declared.geometry.Vec3.{Vec3}
 use Rattle.script_lines.specs.declared.commands.ScriptLine.{ScriptLine}
 use Rattle.script_lines.specs.Scripts.{IsScript}
-use Rattle.edit_core.specs.Versions.{LogEntry}
 use Rattle.iges_parameters.specs.Accepted.{global_text}
-use Rattle.iges_write.specs.CanonicalFile.{canonical_text, global_lines, directory_lines, parameter_lines}
+use Rattle.iges_write.specs.CanonicalFile.{canonical_text, directory_lines}
 use Rattle.iges_write.proofs.FileParts.{entries_count, few_parameters}
 use Rattle.iges_write.proofs.LinesIn.{length-lines_in}
 use Rattle.iges_file.specs.Files.{Reads}

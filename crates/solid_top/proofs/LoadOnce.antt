@@ -1,7 +1,6 @@
 -- The generated input has one output, where there is memory for each line.
 use Rattle.std.proofs.Common.{◌≡◌, ◌≤◌, ℕ, List, length, drop, refl, sym, ap, subst, ◌∙◌}
 use Rattle.std.specs.List.{count_by}
-use Rattle.solid_base.specs.declared.entities.Model.{Model}
 use Rattle.iges_write.specs.CanonicalFile.{canonical_text}
 use Rattle.script_lines.specs.declared.commands.ScriptLine.{ScriptLine}
 use Rattle.edit_core.specs.Versions.{LogEntry}

@@ -1,14 +1,12 @@
 -- The lines of a script done one after the other, and their replies counted.
-use Rattle.std.proofs.Common.{◌≡◌, ◌≢◌, ◌⊎◌, inl, inr, ℕ, zero, suc, ◌+◌, ◌<◌, ◌≤◌, ◌==◌, Bool, true, false, cond, List, [], ◌∷◌, ◌++◌, length, get_or, set, replicate, refl, sym, ap, subst, ◌∙◌, append_assoc, append-nil, arith, length-append}
-use Rattle.std.specs.List.{AllByRecursion, count_by}
+use Rattle.std.proofs.Common.{◌≡◌, ◌≢◌, ◌⊎◌, inl, inr, ℕ, suc, ◌+◌, ◌<◌, ◌≤◌, Bool, cond, List, [], ◌∷◌, ◌++◌, length, set, refl, sym, ap, subst, ◌∙◌, append_assoc, append-nil, arith, length-append}
+use Rattle.std.specs.List.{count_by}
 use Rattle.std.proofs.lemmas.Bool.{cases_eq}
 use Rattle.std.proofs.lemmas.List.{length-replicate, length-set, get_or-replicate, get_or-set_same, get_or-set_other}
 use Rattle.std.proofs.lemmas.List.Sums.{sum_by-append, sum_by-cons, count_by-le-length}
 use Rattle.solid_base.specs.declared.entities.Model.{Model}
-use Rattle.script_lines.specs.declared.commands.Command.{Command}
 use Rattle.script_lines.specs.declared.commands.ScriptLine.{ScriptLine}
-use Rattle.script_lines.specs.Grammar.{IsLine, most_sessions}
-use Rattle.script_lines.specs.Lines.{kept_lines}
+use Rattle.script_lines.specs.Grammar.{most_sessions}
 use Rattle.script_lines.specs.Scripts.{IsScript}
 use Rattle.edit_core.specs.Versions.{LogEntry}
 use Rattle.ask_core.specs.Books.{BookFacts}

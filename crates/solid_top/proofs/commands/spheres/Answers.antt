@@ -1,9 +1,7 @@
-use Rattle.std.proofs.Common.{arith, ◌≡◌, ◌<◌, ◌≤◌, ◌∙◌, length, sym, subst, take, All, IsTrue, ℕ, List}
+use Rattle.std.proofs.Common.{arith, ◌≡◌, ◌≤◌, length, subst, take, All, IsTrue, ℕ, List}
 use Rattle.std.proofs.lemmas.List.{take_all}
 use Rattle.std.proofs.lemmas.List.Elements.{recursion_from_All}
-use Rattle.solid_base.specs.Digits.{is_digit, number_of}
-use Rattle.solid_base.specs.Spelling.{digit_count}
-use Rattle.solid_base.proofs.Digits.{number_of_less}
+use Rattle.solid_base.specs.Digits.{is_digit}
 use Rattle.solid_top.proofs.WordLaws.{four_digits, all_digits}
 use Rattle.solid_top.proofs.commands.spheres.Goals.{then-word-gt4-via-then-word-gt4, then-word-gt4-via-else-word-gt4+then-digit_count-word}
 use Rattle.solid_top.proofs.commands.spheres.Goals as goal

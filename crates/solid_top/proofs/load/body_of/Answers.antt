@@ -1,4 +1,4 @@
-use Rattle.std.proofs.Common.{◌≡◌, ◌∙◌, sym, refl, ap, arith}
+use Rattle.std.proofs.Common.{◌∙◌, sym, refl, arith}
 use Rattle.solid_top.proofs.LoadReplies.{reply_blank, reply_body, reply_long}
 use Rattle.solid_top.proofs.load.body_of.Goals as goal
 

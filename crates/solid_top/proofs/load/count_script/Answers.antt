@@ -1,11 +1,10 @@
-use Rattle.std.proofs.Common.{◌≡◌, ◌∙◌, ◌+◌, ◌<◌, ap, List, [], ◌∷◌, length, length-set, get_or, set, arith}
-use Rattle.script_lines.specs.Grammar.{most_sessions}
+use Rattle.std.proofs.Common.{◌≡◌, ◌∙◌, ap, List, length, length-set, set}
 use Rattle.script_lines.proofs.LineRead.{none_left}
 use Rattle.script_lines.proofs.LineRead as lines_read
 use Rattle.solid_base.proofs.Slices.{written_back}
 use Rattle.solid_desk.specs.InOrder.{standing_of}
 use Rattle.solid_desk.specs.Sessions.{Standing, standing_after}
-use Rattle.solid_top.proofs.LoadRuns.{tallied_none, tallied_push, tallied_run, tallied_script, counts_small, line_small}
+use Rattle.solid_top.proofs.LoadRuns.{tallied_none, tallied_push, tallied_run, tallied_script}
 use Rattle.solid_top.proofs.load.count_script.Goals as goal
 
 pub loop-sessions-init : goal.loop-sessions-init

@@ -1,4 +1,4 @@
-use Rattle.std.proofs.Common.{◌≡◌, ◌∙◌, ◌-◌, ℕ, List, ap, sym, subst, refl, length, drop, arith}
+use Rattle.std.proofs.Common.{◌∙◌, ◌-◌, ℕ, List, ap, sym, subst, refl, length, drop, arith}
 use Rattle.std.proofs.lemmas.List.{length-take, take_rest}
 use Rattle.solid_base.specs.declared.entities.Model.{Model}
 use Rattle.script_lines.specs.Scripts.{IsScript}

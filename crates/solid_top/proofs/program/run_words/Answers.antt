@@ -2,7 +2,7 @@ use Rattle.std.proofs.Common.{refl, map}
 use Rattle.std.proofs.KnownBytes.{Keeps-refl}
 use Rattle.solid_top.specs.Commands.{usage_text, too_long_text}
 use Rattle.solid_top.specs.declared.statuses.Status.TheVariants as status
-use Rattle.solid_top.proofs.RunLaws.{finished, answered, lawful_named}
+use Rattle.solid_top.proofs.RunLaws.{finished, answered}
 use Rattle.solid_top.proofs.program.run_words.Goals as goal
 
 pub returns-in-Ok-None : goal.returns-in-Ok-None
