@@ -1,5 +1,5 @@
 -- Worked values, so that a wrong rule in the specs does not check.
-use Rattle.std.proofs.Common.{◌≡◌, ℕ, ◌+◌, ◌*◌, ◌^◌, ℤ, pos, [], ◌∷◌, None, Some, map, codes, refl}
+use Rattle.std.proofs.Common.{◌≡◌, ℕ, ◌+◌, ◌++◌, ◌*◌, ◌^◌, ℤ, pos, [], ◌∷◌, None, Some, map, codes, refl}
 use Rattle.std.specs.Fmt.{digits}
 use Rattle.decimal_scale.specs.Writing.{last_digits}
 use Rattle.solid_base.specs.declared.classes.Class.TheVariants as class
@@ -69,7 +69,7 @@ inside = record { class = class.Inside; leaf = 0 }
 -- the unit sphere from -2 to 2
 pub section_of_a_sphere : section_words 4 4 (out ∷ mixed ∷ mixed ∷ out ∷ mixed ∷ mixed ∷ mixed ∷ mixed
     ∷ mixed ∷ mixed ∷ mixed ∷ mixed ∷ out ∷ mixed ∷ mixed ∷ out ∷ [])
-    ≡ codes "SECTION 4 4\n.??.\n????\n????\n.??."
+    ≡ codes "SECTION 4 4\n.??.\n??" ++ codes "??\n??" ++ codes "??\n.??."
 unfolding digits
 section_of_a_sphere = refl
 
