@@ -35,7 +35,7 @@ PROGRAM = """\
 #![tactic(auto)]
 
 use fixed_enclosure::{Box3, Enc};
-use memo_graph::{Key, Memo};
+use memo_graph::{HashedKey, Key, Memo};
 use solid_base::{Class, Verdict};
 use std::alloc::{AllocError, Global};
 use std::env;
@@ -74,11 +74,11 @@ fn verdict(number: u32) -> Verdict {
 
 // A look, and a fill where the key isn't held. Answers the leaf of the verdict.
 fn answer(memo: &mut Memo, number: u32) -> Result<u32, AllocError> {
-    let key = key(number);
+    let key = HashedKey::of(key(number));
     if let Some(found) = memo.look(&key) {
         return Ok(found.leaf);
     }
-    memo.fill(key, verdict(number))?;
+    memo.fill(&key, verdict(number))?;
     Ok(0)
 }
 

@@ -1,8 +1,7 @@
 pub mod Keys
 pub mod Entries
 pub mod Keeping
-pub mod Kept
-pub mod StoredTest
+pub mod KeyTests
 pub mod Steps
 pub mod Fronts
 mod StandardFacts

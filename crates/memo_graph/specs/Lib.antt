@@ -1,3 +1,3 @@
 pub mod Digests
+pub mod KeyLaws
 pub mod Memos
-pub mod Stores

@@ -63,6 +63,10 @@ pub record MemoFacts : Type 0 where
   pub entries : List Entry
   pub capacity : ℕ
 
+-- the entries of a memo beside its capacity
+abbrev pub memo_facts : List Entry → ℕ → MemoFacts
+memo_facts entries capacity = record { entries = entries; capacity = capacity }
+
 -- solidd's own: what is true of every memo: it may hold one entry or more and holds no more than it
 -- may, and no key stands twice
 pub record IsMemo (memo : MemoFacts) : Type 0 where

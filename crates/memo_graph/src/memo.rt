@@ -1,9 +1,8 @@
 ghost use Rattle.std.specs.Prelude.{◌≡◌, ◌<◌, [], length, IfOk, OnOk, OnErr, IsSome, IsOk};
 ghost use Rattle.memo_graph.specs.Memos.{MemoFacts, IsMemo, verdict_of, promoted, filled};
 
-use crate::key::Key;
+use crate::hashed_key::HashedKey;
 use crate::recent::{keep, recall};
-use crate::stored::Stored;
 use lru::LruCache;
 use solid_base::Verdict;
 use std::alloc::{AllocError, Global};
@@ -14,18 +13,17 @@ use std::num::NonZeroUsize;
 /// the most recently used first, each key once, and the capacity.
 #[derive(Drop)]
 pub struct Memo {
-    cache: LruCache<Stored, Verdict>,
+    cache: LruCache<HashedKey, Verdict>,
 }
 
 impl Model for Memo {
-    ghost use Rattle.memo_graph.specs.Memos.{MemoFacts};
-    ghost use Rattle.memo_graph.specs.Stores.{shown, IsStore};
+    ghost use Rattle.memo_graph.specs.Memos.{MemoFacts, memo_facts, IsMemo};
 
     ghost Value = { MemoFacts };
 
-    ghost view = { λ m. shown m.cache };
+    ghost view = { λ m. memo_facts m.cache.entries m.cache.cap };
 
-    ghost invariant = { λ m. IsStore m.cache };
+    ghost invariant = { λ m. IsMemo (memo_facts m.cache.entries m.cache.cap) };
 }
 
 impl Memo {
@@ -46,27 +44,27 @@ impl Memo {
 
     /// The verdict that is held under the key, whose entry becomes the most recently used; None
     /// exactly where the key isn't held. It takes no memory.
-    pub fn look(&mut self, key: &Key) -> Option<Verdict>
+    pub fn look(&mut self, key: &HashedKey) -> Option<Verdict>
         ensures verdict { result ≡ verdict_of key.now self.old.entries }
         ensures entries { self.new.entries ≡ promoted key.now self.old.entries }
         ensures capacity { self.new.capacity ≡ self.old.capacity }
         ensures valid { IsMemo self.new }
     {
-        recall(&mut self.cache, &Stored::of(key))
+        recall(&mut self.cache, key)
     }
 
     /// Keeps the verdict under the key, as the most recently used entry. Where the key wasn't held
     /// and the memo is full, the entry that was used the longest ago is dropped. AllocError is the
     /// only refusal: it changes nothing, and never comes where the key is held.
-    pub fn fill(&mut self, key: Key, verdict: Verdict) -> Result<(), AllocError>
+    pub fn fill(&mut self, key: &HashedKey, verdict: Verdict) -> Result<(), AllocError>
         ensures entries { OnOk result
-            (self.new.entries ≡ filled self.old.capacity key verdict self.old.entries) }
+            (self.new.entries ≡ filled self.old.capacity key.now verdict self.old.entries) }
         ensures err { OnErr result (self.new ≡ self.old) }
         ensures capacity { self.new.capacity ≡ self.old.capacity }
-        ensures held { IsSome (verdict_of key self.old.entries) → IsOk result }
+        ensures held { IsSome (verdict_of key.now self.old.entries) → IsOk result }
         ensures valid { IsMemo self.new }
     {
-        keep(&mut self.cache, Stored::of(&key), verdict)
+        keep(&mut self.cache, *key, verdict)
     }
 
     /// How many entries the memo holds.

@@ -1,10 +1,10 @@
 //! Small memos, by tables of looks and fills.
-use crate::{Key, Memo};
+use crate::{HashedKey, Key, Memo};
 use fixed_enclosure::{Box3, Enc};
 use solid_base::{Class, Verdict};
 use std::test::*;
 
-fn key(de: u32, stamp: u64, at: i128) -> Key {
+fn parts(de: u32, stamp: u64, at: i128) -> Key {
     let enc = Enc::Span { lo: at, hi: at };
     Key {
         de,
@@ -17,6 +17,10 @@ fn key(de: u32, stamp: u64, at: i128) -> Key {
     }
 }
 
+fn key(de: u32, stamp: u64, at: i128) -> HashedKey {
+    HashedKey::of(parts(de, stamp, at))
+}
+
 fn mixed(leaf: u32) -> Verdict {
     Verdict {
         class: Class::Mixed,
@@ -27,20 +31,21 @@ fn mixed(leaf: u32) -> Verdict {
 #[test]
 fn a_key_is_its_entity_its_stamp_and_its_box(rt: HostRuntime) -> Result<(), Fail> {
     let mut memo = Memo::new(rt.alloc(), 4)?;
-    memo.fill(key(1, 0, 5), mixed(1))?;
+    memo.fill(&key(1, 0, 5), mixed(1))?;
     assert_eq!(rt; memo.look(&key(1, 0, 5)), Some(mixed(1)));
     let others = [key(3, 0, 5), key(1, 1, 5), key(1, 0, 6), key(1, 0, -5)];
     for other in others.iter() {
         assert_eq!(rt; memo.look(other), None);
     }
-    let at = key(1, 0, 5).at;
+    let at = parts(1, 0, 5).at;
     let half_open = Box3 { z: Enc::All, ..at };
-    let open = Key {
+    let open = HashedKey::of(Key {
         at: half_open,
-        ..key(1, 0, 5)
-    };
+        ..*key(1, 0, 5).key()
+    });
+    assert!(rt; open == open && open != key(1, 0, 5));
     assert_eq!(rt; memo.look(&open), None);
-    memo.fill(open, mixed(7))?;
+    memo.fill(&open, mixed(7))?;
     assert_eq!(rt; memo.look(&open), Some(mixed(7)));
     assert_eq!(rt; memo.look(&key(1, 0, 5)), Some(mixed(1)));
     assert_eq!(rt; memo.len(), 2);
@@ -50,15 +55,15 @@ fn a_key_is_its_entity_its_stamp_and_its_box(rt: HostRuntime) -> Result<(), Fail
 #[test]
 fn the_entry_that_was_used_the_longest_ago_goes(rt: HostRuntime) -> Result<(), Fail> {
     let mut memo = Memo::new(rt.alloc(), 2)?;
-    memo.fill(key(1, 0, 0), mixed(1))?;
-    memo.fill(key(3, 0, 0), mixed(3))?;
+    memo.fill(&key(1, 0, 0), mixed(1))?;
+    memo.fill(&key(3, 0, 0), mixed(3))?;
     assert_eq!(rt; memo.look(&key(1, 0, 0)), Some(mixed(1)));
-    memo.fill(key(5, 0, 0), mixed(5))?;
+    memo.fill(&key(5, 0, 0), mixed(5))?;
     assert_eq!(rt; memo.look(&key(3, 0, 0)), None);
     assert_eq!(rt; memo.look(&key(1, 0, 0)), Some(mixed(1)));
-    memo.fill(key(5, 0, 0), mixed(9))?;
+    memo.fill(&key(5, 0, 0), mixed(9))?;
     assert_eq!(rt; memo.len(), 2);
-    memo.fill(key(7, 0, 0), mixed(7))?;
+    memo.fill(&key(7, 0, 0), mixed(7))?;
     assert_eq!(rt; memo.look(&key(1, 0, 0)), None);
     assert_eq!(rt; memo.look(&key(5, 0, 0)), Some(mixed(9)));
     assert_eq!(rt; memo.look(&key(7, 0, 0)), Some(mixed(7)));
@@ -69,7 +74,7 @@ fn the_entry_that_was_used_the_longest_ago_goes(rt: HostRuntime) -> Result<(), F
 fn a_memo_of_one_entry_keeps_the_newest(rt: HostRuntime) -> Result<(), Fail> {
     let mut memo = Memo::new(rt.alloc(), 1)?;
     for number in 0u32..5 {
-        memo.fill(key(number, 0, 0), mixed(number))?;
+        memo.fill(&key(number, 0, 0), mixed(number))?;
         assert_eq!(rt; memo.len(), 1);
         assert_eq!(rt; memo.look(&key(number, 0, 0)), Some(mixed(number)));
     }

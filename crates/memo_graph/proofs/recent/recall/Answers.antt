@@ -1,13 +1,13 @@
-use Rattle.memo_graph.specs.contracts.stored.StoredPartialEq.TheImpl as stored_test
+use Rattle.memo_graph.specs.Memos.{same_key}
 use Rattle.memo_graph.proofs.Fronts.{found_first, not_found}
 use Rattle.memo_graph.proofs.recent.recall.Goals as goal
 
 pub returns-then-not-promote-clause-verdict : goal.returns-then-not-promote-clause-verdict
 returns-then-not-promote-clause-verdict c =
-    not_found (stored_test.eq-value.it c.args.key.now) c.args.cache.now.entries
+    not_found (same_key c.args.key.now) c.args.cache.now.entries
     c.promote.ensures.value c.if-not-promote.true
 
 pub returns-clause-verdict : goal.returns-clause-verdict
 returns-clause-verdict c = rw (c.first_verdict.ensures, c.promote.ensures.entries)
-    (found_first (stored_test.eq-value.it c.args.key.now) c.args.cache.now.entries
+    (found_first (same_key c.args.key.now) c.args.cache.now.entries
     c.promote.ensures.value c.if-not-promote.false)
