@@ -1,7 +1,8 @@
--- What is left on levels when one is pushed or taken off.
-use Rattle.std.proofs.Common.{◌≡◌, ℕ, suc, ◌+◌, ◌≤◌, ◌<◌, List, [], ◌∷◌, ◌++◌, length, sym, ap, ◌∙◌, subst, arith, append_assoc, append-nil}
+-- What is left on levels when one is pushed, moved on or taken off.
+use Rattle.std.proofs.Common.{◌≡◌, ℕ, suc, ◌+◌, ◌-◌, slice_index_or, slice_set, ◌≤◌, ◌<◌, List, [], ◌∷◌, ◌++◌, length, refl, sym, ap, ◌∙◌, subst, arith, append_assoc, append-nil}
 use Rattle.std.specs.List.{AllByRecursion}
 use Rattle.std.proofs.lemmas.List.{length-append}
+use Rattle.std.proofs.Math.Seq.{get_or-append_seam, set-append_seam}
 use Rattle.solid_base.specs.declared.entities.Entity.{Entity}
 use Rattle.solid_base.specs.Stack.{Stack}
 use Rattle.solid_base.specs.Graph.{most_levels, depth_of, weight_of, AreSound}
@@ -12,11 +13,23 @@ use Rattle.entity_graph.specs.Opaque.{ReachesOpaque}
 use Rattle.entity_graph.proofs.Levels.{no_levels}
 use Rattle.solid_eval.specs.declared.level_stack.Level.{Level}
 use Rattle.solid_eval.specs.declared.parts.Part.{Part}
+use Rattle.solid_eval.specs.LevelStack.{outer}
 use Rattle.solid_eval.specs.Solids.{solid_of}
 use Rattle.solid_eval.specs.Uses.{Use, uses}
-use Rattle.solid_eval.specs.Walking.{level_uses, levels_uses, IsLevel, AreLevels, IsStack, IsPart, IsOpened}
+use Rattle.solid_eval.specs.Walking.{part_spans, level_uses, levels_uses, IsLevel, AreLevels, IsStack, IsPart, IsOpened}
 use Rattle.solid_eval.proofs.FromUses.{uses_counted}
 use Rattle.solid_eval.proofs.Uses.{count_exact}
+
+-- the place in the innermost level is set
+pub index_set : (levels front : List Level) (n k : ℕ) (now l : Level) → n ≡ length levels → now ≡ slice_index_or levels (n - 1) now → levels ≡ front ++ l ∷ []
+    → slice_set levels (n - 1) (record { e = now.e; at = now.at; index = k }) ≡ front ++ record { e = l.e; at = l.at; index = k } ∷ []
+index_set levels front n k now l long value is =
+    let last : n - 1 ≡ length front = omega (arith, long, ap length is ∙ length-append front (l ∷ [])) in
+    let same : now ≡ l = value ∙ ap (λ ls. slice_index_or ls (n - 1) now) is ∙ ap (λ i. slice_index_or (front ++ l ∷ []) i now) last ∙ get_or-append_seam front l [] now in
+    ap (λ ls. slice_set ls (n - 1) (record { e = now.e; at = now.at; index = k })) is
+    ∙ ap (λ i. slice_set (front ++ l ∷ []) i (record { e = now.e; at = now.at; index = k })) last
+    ∙ set-append_seam front l [] (record { e = now.e; at = now.at; index = k })
+    ∙ ap (λ (m : Level). front ++ record { e = m.e; at = m.at; index = k } ∷ []) same
 
 module _ (rows : List Entity) where
   pub uses_pushed : (levels : List Level) (l : Level) → levels_uses rows (levels ++ l ∷ []) ≡ level_uses rows l ++ levels_uses rows levels
@@ -44,6 +57,13 @@ module _ (rows : List Entity) where
       let long : length old.list ≡ length new.list + 1 = ap length list ∙ length-append new.list (l ∷ []) in
       (record { each = both.0; room = omega (arith, long, spare, h.room) }, both.1)
 
+  -- ---- the innermost level, and those before it
+  abbrev pub before_last : Stack Level → Stack Level
+  before_last levels = record { list = outer levels.list; spare = levels.spare + 1 }
+
+  pub innermost : (levels : Stack Level) (l : Level) → IsStack rows levels → levels.list ≡ outer levels.list ++ l ∷ [] → IsStack rows (before_last levels) × IsLevel rows (length (outer levels.list)) l
+  innermost levels l h is = stack_popped levels (before_last levels) l h is refl
+
   pub has_room : AreSound rows → (levels : Stack Level) (e : ℕ) → IsStack rows levels → depth_of rows e + length levels.list ≤ most_levels → 0 < levels.spare
   has_room sound levels e h deep = let one = (no_levels rows sound.shallow e).depth in omega (arith, one, deep, h.room)
 
@@ -59,13 +79,14 @@ module _ (rows : List Entity) where
       (stack_pushed below pushed (after_part l part) stack next list spare, omega (arith, long, level.deep, h.less))
 
   -- the uses of the part, those left on its level, and those left on the levels before
-  pub left_below : (below pushed : Stack Level) (l : Level) (part : Part) (rest : List Use) → IsPart rows l part → pushed.list ≡ below.list ++ after_part l part ∷ []
-      → uses (solid_of rows part.number) (spans_of part.at) ++ levels_uses rows pushed.list ≡ rest → level_uses rows l ++ levels_uses rows below.list ≡ rest
-  left_below below pushed l part rest h list found =
-      let first = uses (solid_of rows part.number) (spans_of part.at) in
+  pub left_below : (below pushed : Stack Level) (l : Level) (part : Part) (there : Box3) (rest : List Use) → IsPart rows l part → pushed.list ≡ below.list ++ after_part l part ∷ []
+      → spans_of there ≡ part_spans rows l part → uses (solid_of rows part.number) (spans_of there) ++ levels_uses rows pushed.list ≡ rest → level_uses rows l ++ levels_uses rows below.list ≡ rest
+  left_below below pushed l part there rest h list placed found =
+      let first = uses (solid_of rows part.number) (part_spans rows l part) in
       let before = levels_uses rows below.list in
       let pushed_left = ap (levels_uses rows) list ∙ uses_pushed below.list (after_part l part) in
-      ap (λ u. u ++ before) h.first ∙ append_assoc first (level_uses rows (after_part l part)) before ∙ ap (λ u. first ++ u) (sym pushed_left) ∙ found
+      ap (λ u. u ++ before) h.first ∙ append_assoc first (level_uses rows (after_part l part)) before ∙ ap (λ u. first ++ u) (sym pushed_left)
+      ∙ ap (λ s. uses (solid_of rows part.number) s ++ levels_uses rows pushed.list) (sym placed) ∙ found
 
   opened_reads : (e n : ℕ) → n ≡ e → ((k : ℕ) → ¬ ReachesOpaque rows e k) → (k : ℕ) → ¬ ReachesOpaque rows n k
   opened_reads e n is reads = subst (λ m. (k : ℕ) → ¬ ReachesOpaque rows m k) (sym is) reads

@@ -17,6 +17,7 @@ use Rattle.fixed_enclosure.specs.Places.{Span3, spans_of}
 use Rattle.fixed_enclosure.specs.Spans.{IsBox}
 use Rattle.affine_pull.specs.Chains.{chain_of, spans_through}
 use Rattle.affine_pull.proofs.LawfulChains.{lawful-row}
+use Rattle.affine_pull.proofs.Levels.{chain-none}
 use Rattle.entity_graph.specs.Opaque.{ReachesOpaque}
 use Rattle.entity_graph.proofs.Levels.{no_levels}
 use Rattle.solid_eval.specs.declared.level_stack.Level.{Level}
@@ -52,7 +53,7 @@ after_child f (suc (suc k)) n some = refl
 
 module _ (rows : List Entity) (lawful : AllByRecursion (λ (e : Entity). IsLawfulRow e.row) rows) (sound : AreSound rows) where
   -- ---- the next part
-  module _ (l : Level) (at : IsBox l.at) (reads : (k : ℕ) → ¬ ReachesOpaque rows l.e k) where
+  module _ (l : Level) (reads : (k : ℕ) → ¬ ReachesOpaque rows l.e k) where
     abbrev Below : ℕ → Type 0
     Below = IsBelow rows lawful sound l.e (depth_of rows l.e) (omega arith) reads
 
@@ -62,8 +63,12 @@ module _ (rows : List Entity) (lawful : AllByRecursion (λ (e : Entity). IsLawfu
     on_level : (r : Row) (k : ℕ) → row_at rows l.e ≡ r → uses_from rows (row_at rows l.e) k (spans_of l.at) ≡ uses_from rows r k (spans_of l.at)
     on_level r k is = ap (λ r. uses_from rows r k (spans_of l.at)) is
 
+    -- no matrix carries no place
+    not_moved : spans_of l.at ≡ spans_through (chain_of rows 0) (spans_of l.at)
+    not_moved = ap (λ chain. spans_through chain (spans_of l.at)) (sym (chain-none rows))
+
     pub operand_next : (items : List Item) (matrix n next : ℕ) → row_at rows l.e ≡ row.Tree items matrix → operands_of (drop l.index items) ≡ reference.Solid n ∷ operands_of (drop next items)
-        → IsPart rows l (record { number = n; at = l.at; next = next })
+        → IsPart rows l (record { number = n; matrix = 0; next = next })
     operand_next items matrix n next is stands =
         let f = operand_uses (solid_of rows) (spans_of l.at) in
         let below = (subst (λ os. AllByRecursion Below (map target os)) stands
@@ -71,8 +76,8 @@ module _ (rows : List Entity) (lawful : AllByRecursion (λ (e : Entity). IsLawfu
         let heavy = (subst (λ os. AllByRecursion (λ c. 1 ≤ weight_of rows c) (map target os)) stands
         (later_operands (λ c. 1 ≤ weight_of rows c) l.index items (operands_weigh rows lawful sound l.e matrix items is))).0 in
         record {
-          first = on_level (row.Tree items matrix) l.index is ∙ ap (λ os. flat_map f (map target os)) stands ∙ ap (λ us. f n ++ us) (sym (on_level (row.Tree items matrix) next is));
-          at = at;
+          first = on_level (row.Tree items matrix) l.index is ∙ ap (λ os. flat_map f (map target os)) stands ∙ ap (λ s. uses (solid_of rows n) s ++ flat_map f (map target (operands_of (drop next items)))) not_moved
+              ∙ ap (λ us. uses (solid_of rows n) (spans_through (chain_of rows 0) (spans_of l.at)) ++ us) (sym (on_level (row.Tree items matrix) next is));
           less = less_deep n below;
           reads = below.reads;
           weighs = heavy;
@@ -82,19 +87,16 @@ module _ (rows : List Entity) (lawful : AllByRecursion (λ (e : Entity). IsLawfu
     operands_ended items matrix is none =
         on_level (row.Tree items matrix) l.index is ∙ ap (λ os. flat_map (operand_uses (solid_of rows) (spans_of l.at)) (map target os)) none
 
-    pub item_next : (items : List Placed) (matrix next : ℕ) (p : Placed) (there : Box3) → row_at rows l.e ≡ row.Assembly items matrix → drop l.index items ≡ p ∷ drop next items
-        → spans_of there ≡ spans_through (chain_of rows p.matrix) (spans_of l.at) → IsBox there → IsPart rows l (record { number = p.item; at = there; next = next })
-    item_next items matrix next p there is stands placed box =
+    pub item_next : (items : List Placed) (matrix next : ℕ) (p : Placed) → row_at rows l.e ≡ row.Assembly items matrix → drop l.index items ≡ p ∷ drop next items
+        → IsPart rows l (record { number = p.item; matrix = p.matrix; next = next })
+    item_next items matrix next p is stands =
         let f = item_uses (solid_of rows) (chain_of rows) (spans_of l.at) in
         let below = (subst (AllByRecursion (λ (p : Placed). Below p.item)) stands
         (later_items (λ (p : Placed). Below p.item) l.index items (items_below rows lawful sound l.e (depth_of rows l.e) (omega arith) reads items matrix is))).0 in
         let heavy = (subst (AllByRecursion (λ (p : Placed). 1 ≤ weight_of rows p.item)) stands
         (later_items (λ (p : Placed). 1 ≤ weight_of rows p.item) l.index items (each_item (λ c. 1 ≤ weight_of rows c) items (items_weigh rows lawful sound l.e matrix items is)))).0 in
-        let rest = flat_map f (drop next items) in
         record {
-          first = on_level (row.Assembly items matrix) l.index is ∙ ap (flat_map f) stands ∙ ap (λ s. uses (solid_of rows p.item) s ++ rest) (sym placed)
-              ∙ ap (λ us. uses (solid_of rows p.item) (spans_of there) ++ us) (sym (on_level (row.Assembly items matrix) next is));
-          at = box;
+          first = on_level (row.Assembly items matrix) l.index is ∙ ap (flat_map f) stands ∙ ap (λ us. f p ++ us) (sym (on_level (row.Assembly items matrix) next is));
           less = less_deep p.item below;
           reads = below.reads;
           weighs = heavy;
@@ -104,14 +106,14 @@ module _ (rows : List Entity) (lawful : AllByRecursion (λ (e : Entity). IsLawfu
     items_ended items matrix is none =
         on_level (row.Assembly items matrix) l.index is ∙ ap (flat_map (item_uses (solid_of rows) (chain_of rows) (spans_of l.at))) none
 
-    pub child_next : (n matrix : ℕ) → row_at rows l.e ≡ row.Instance n matrix → l.index ≡ 0 → IsPart rows l (record { number = n; at = l.at; next = 1 })
+    pub child_next : (n matrix : ℕ) → row_at rows l.e ≡ row.Instance n matrix → l.index ≡ 0 → IsPart rows l (record { number = n; matrix = 0; next = 1 })
     child_next n matrix is none =
         let f = operand_uses (solid_of rows) (spans_of l.at) in
         let heavy = solid_weighs rows lawful sound l.e (subst IsSolidRow (sym is) tt) in
         let below = child_below rows lawful sound l.e (depth_of rows l.e) (omega arith) reads n matrix is in
         record {
-          first = on_level (row.Instance n matrix) l.index is ∙ ap (λ k. flat_map f (drop k (n ∷ []))) none ∙ ap (λ us. f n ++ us) (sym (on_level (row.Instance n matrix) 1 is));
-          at = at;
+          first = on_level (row.Instance n matrix) l.index is ∙ ap (λ k. flat_map f (drop k (n ∷ []))) none ∙ ap (λ s. uses (solid_of rows n) s ++ []) not_moved
+              ∙ ap (λ us. uses (solid_of rows n) (spans_through (chain_of rows 0) (spans_of l.at)) ++ us) (sym (on_level (row.Instance n matrix) 1 is));
           less = less_deep n below;
           reads = below.reads;
           weighs = subst (λ w. 1 ≤ w) (row_weighs rows lawful sound l.e (row.Instance n matrix) is) heavy;

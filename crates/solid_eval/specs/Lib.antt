@@ -8,3 +8,4 @@ pub mod Taking
 pub mod Interior
 pub mod Passing
 pub mod Walking
+pub mod LevelStack

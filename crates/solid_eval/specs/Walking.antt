@@ -87,12 +87,15 @@ pub record IsWalk (rows : List Entity) (w : Walk) : Type 0 where
 
 -- ---- the next part of a level
 
+-- solidd's own: the spans of a level's box before an operand's, item's or child's own matrix
+abbrev pub part_spans : List Entity → Level → Part → Span3
+part_spans rows l part = spans_through (chain_of rows part.matrix) (spans_of l.at)
+
 -- solidd's own: the next operand, item or child of a level, whose uses are the first that are left
 -- on the level; its depth is less, it reaches nothing unread, and it weighs something
 pub record IsPart (rows : List Entity) (l : Level) (part : Part) : Type 0 where
-  pub first : level_uses rows l ≡ uses (solid_of rows part.number) (spans_of part.at)
+  pub first : level_uses rows l ≡ uses (solid_of rows part.number) (part_spans rows l part)
       ++ level_uses rows (record { e = l.e; at = l.at; index = part.next })
-  pub at : IsBox part.at
   pub less : depth_of rows part.number < depth_of rows l.e
   pub reads : (k : ℕ) → ¬ ReachesOpaque rows part.number k
   pub weighs : 1 ≤ weight_of rows part.number

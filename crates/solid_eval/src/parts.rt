@@ -4,21 +4,18 @@ ghost use Rattle.solid_base.specs.declared.references.Reference.TheVariants as r
 ghost use Rattle.solid_base.specs.Graph.{AreSound};
 ghost use Rattle.solid_base.specs.Ranges.{IsLawfulRow};
 ghost use Rattle.solid_base.specs.References.{operands_of};
-ghost use Rattle.fixed_enclosure.specs.Spans.{IsBox};
 ghost use Rattle.entity_graph.specs.Opaque.{ReachesOpaque};
 ghost use Rattle.solid_eval.specs.Walking.{level_uses, IsPart};
 
 use crate::level_stack::Level;
-use affine_pull::pull_chain;
-use fixed_enclosure::Box3;
 use solid_base::{Item, Items, Placed, PlacedList, Row, Rows};
 
-/// An operand, item or child of a level: its number, the box, in steps, before its own matrix, and
-/// the place, counted from 0, after it.
+/// An operand, item or child of a level: its number, the matrix of its place, 0 for none, and the
+/// place, counted from 0, after it.
 #[derive(Clone, Copy, Debug)]
 pub struct Part {
     pub number: u32,
-    pub at: Box3,
+    pub matrix: u32,
     pub next: usize,
 }
 
@@ -26,7 +23,6 @@ pub struct Part {
 pub fn part_from(rows: &Rows, level: &Level) -> Option<Part>
     requires rows { AllByRecursion (λ e. IsLawfulRow e.row) rows.now }
     requires sound { AreSound rows.now }
-    requires at { IsBox level.now.at }
     requires read { (n : ℕ) → ¬ ReachesOpaque rows.now level.now.e n }
     ensures { MatchOption result (level_uses rows.now level.now ≡ []) (IsPart rows.now level.now) }
 {
@@ -35,16 +31,15 @@ pub fn part_from(rows: &Rows, level: &Level) -> Option<Part>
             let (number, next) = operand_from(items, level.index)?;
             Some(Part {
                 number,
-                at: level.at,
+                matrix: 0,
                 next,
             })
         }
         Some(Row::Assembly { items, .. }) => {
             let (placed, next) = item_from(items, level.index)?;
-            let at = pull_chain(rows, placed.matrix, &level.at);
             Some(Part {
                 number: placed.item,
-                at,
+                matrix: placed.matrix,
                 next,
             })
         }
@@ -54,7 +49,7 @@ pub fn part_from(rows: &Rows, level: &Level) -> Option<Part>
             }
             Some(Part {
                 number: *child,
-                at: level.at,
+                matrix: 0,
                 next: 1,
             })
         }

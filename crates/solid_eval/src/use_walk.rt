@@ -101,18 +101,16 @@ fn first_use(rows: &Rows, e: u32, at: &Box3, levels: &mut Levels) -> (u32, Box3)
     ensures at { IsBox result.1 }
     ensures stack { IsStack rows.now levels.new }
 {
-    let level = match level_of(rows, e, at) {
+    let mut level = match level_of(rows, e, at) {
         Some(level) => level,
         None => return (e, *at),
     };
     match part_from(rows, &level) {
         Some(part) => {
-            let after_first = Level {
-                index: part.next,
-                ..level
-            };
-            levels.push(after_first).unwrap();
-            first_use(rows, part.number, &part.at, levels)
+            let at = pull_chain(rows, part.matrix, &level.at);
+            level.index = part.next;
+            levels.push(level);
+            first_use(rows, part.number, &at, levels)
         }
         None => (e, *at),
     }
@@ -166,14 +164,14 @@ fn next_use(rows: &Rows, levels: &mut Levels) -> Option<(u32, Box3)>
     ensures at { MatchOption result (Unit {0}) (λ u. IsBox u.1) }
     ensures stack { IsStack rows.now levels.new }
 {
-    while let Some(level) = levels.pop() {
-        if let Some(part) = part_from(rows, &level) {
-            let after_next = Level {
-                index: part.next,
-                ..level
-            };
-            levels.push(after_next).unwrap();
-            return Some(first_use(rows, part.number, &part.at, levels));
+    while let Some(level) = levels.last() {
+        match part_from(rows, level) {
+            Some(part) => {
+                let at = pull_chain(rows, part.matrix, &level.at);
+                levels.set_index(part.next);
+                return Some(first_use(rows, part.number, &at, levels));
+            }
+            None => levels.leave(),
         }
     }
     None

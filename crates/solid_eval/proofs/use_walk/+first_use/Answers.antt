@@ -13,8 +13,8 @@ first_use-requires t c =
     let part = c.in-Some-part_from.part in
     let h = c.in-Some-part_from.ensures in
     let room = has_room rows c.requires.sound below c.args.e c.requires.stack c.requires.deep in
-    let list = rw c.unwrap.ensures at c.push.ensures.ok in
-    let spare = (rw c.unwrap.ensures at c.push.ensures.spare) room in
+    let list = c.push.ensures.list in
+    let spare = c.push.ensures.spare in
     let level = opened_level rows c.args.e (length below.list) c.args.at.now c.in-Some.level c.in-Some.ensures c.requires.deep c.requires.read in
     let taken = part_taken rows below c.push.new.self c.in-Some.level part c.requires.stack level h list spare in
     let same : depth_of rows c.in-Some.level.e ≡ depth_of rows c.args.e = ap (depth_of rows) c.in-Some.ensures.number in
@@ -29,9 +29,9 @@ pub returns-in-Some-part_from-clause-first : goal.returns-in-Some-part_from-clau
 returns-in-Some-part_from-clause-first t c =
     let rows = c.args.rows.now in
     let below = c.args.levels.now in
-    let list = rw c.unwrap.ensures at c.push.ensures.ok in
+    let list = c.push.ensures.list in
     ap (λ u. u ++ levels_uses rows below.list) c.in-Some.ensures.all
-    ∙ left_below rows below c.push.new.self c.in-Some.level c.in-Some-part_from.part _ c.in-Some-part_from.ensures list c.first_use.ensures.first
+    ∙ left_below rows below c.push.new.self c.in-Some.level c.in-Some-part_from.part c.pull_chain-at.result _ c.in-Some-part_from.ensures list c.pull_chain-at.ensures.value c.first_use.ensures.first
 
 pub returns-in-None-part_from-clause-first : goal.returns-in-None-part_from-clause-first
 returns-in-None-part_from-clause-first t c =
