@@ -89,21 +89,25 @@ impl Table {
         requires { IsAccepted model }
         ensures opening { IfOk result (IsOpening model) }
     {
+        let lines = line_count(&model.rows);
         match Graph::check(alloc, &model.rows) {
-            Ok(graph) => Table::start_with_graph(alloc, model, graph),
+            Ok(graph) => Table::start_with_graph(alloc, model, graph, lines),
             // The references of an accepted model have no fault, so memory ran out.
             Err(_) => Err(AllocError),
         }
     }
 
-    /// The same from the graph of the model's rows, as a reader gives it.
+    /// The same from the graph of the model's rows and how many lines their records take, as a
+    /// reader gives them.
     pub fn start_with_graph(
         alloc: Global,
         model: SolidModel,
         graph: Graph,
+        lines: u64,
     ) -> Result<Table, AllocError>
         requires accepted { IsAccepted model }
         requires graph { graph ≡ model.rows }
+        requires lines { lines ≡ lines_of model.comma model.semi model.rows }
         ensures opening { IfOk result (IsOpening model) }
     {
         let all = changed_numbers(alloc, &Batch::new(alloc), 0, model.rows.len())?;
@@ -117,8 +121,8 @@ impl Table {
         Ok(Table {
             version: 0,
             frame: Arc::new(alloc, frame)?,
-            lines: line_count(&model.rows),
             rows: model.rows,
+            lines,
             graph,
             stamps,
         })
@@ -186,7 +190,7 @@ impl Table {
     }
 
     /// How many lines the records of the rows take.
-    fn lines(&self) -> u64
+    pub fn lines(&self) -> u64
         ensures { result ≡ lines_of self.now.model.comma self.now.model.semi self.now.model.rows }
     {
         self.lines

@@ -1,10 +1,10 @@
 ghost use Rattle.std.specs.Prelude.{◌≡◌, ◌≤◌, ◌^◌, length, IfOk, IfErr};
 ghost use Rattle.iges_file.specs.Faults.{IsOfText, IsOuter};
-ghost use Rattle.iges_parameters.specs.Accepted.{IsAccepted};
+ghost use Rattle.iges_parameters.specs.Accepted.{IsAccepted, lines_of};
 ghost use Rattle.iges_file.specs.Files.{Reads, Refused};
 
 use crate::faults::FileFault;
-use crate::rows::{check_lines, read_rows};
+use crate::rows::{checked_lines, read_rows};
 use entity_graph::Graph;
 use iges_cards::read_cards;
 use iges_directory::{read_directory, read_global};
@@ -18,12 +18,15 @@ pub struct ReadFile {
     pub model: Model,
     /// The graph of the model's entities, whose references obey the rules.
     pub graph: Graph,
+    /// How many lines the records of the model's entities take.
+    pub lines: u64,
     /// The place after the terminate line, in bytes from the beginning.
     pub end: usize,
 }
 
 /// Reads a file in the fixed form (IGES 5.3, 2.2), of at most 2^25 bytes: its model, the graph of
-/// the model's entities, and the place after its terminate line, after which nothing is read.
+/// the model's entities, how many lines their records take, and the place after its terminate line,
+/// after which nothing is read.
 ///
 /// The row at place i is that of the entity with the number 2i + 1. Entities of types and forms
 /// that aren't read keep their records.
@@ -36,6 +39,8 @@ pub fn read_file(alloc: Global, bytes: &[u8]) -> Result<ReadFile, FileFault>
     requires { length bytes.now ≤ 2 ^ 25 }
     ensures reads { IfOk result (λ read. Reads bytes.now read.model read.end) }
     ensures graph { IfOk result (λ read. read.graph ≡ read.model.rows) }
+    ensures lines { IfOk result (λ read. read.lines
+        ≡ lines_of read.model.comma read.model.semi read.model.rows) }
     ensures accepted { IfOk result (λ read. IsAccepted read.model) }
     ensures outer { IfErr result IsOuter }
     ensures refused { IfErr result (λ fault. IsOfText fault → Refused bytes.now fault) }
@@ -46,7 +51,7 @@ pub fn read_file(alloc: Global, bytes: &[u8]) -> Result<ReadFile, FileFault>
     drop(cards.directory);
     let rows = read_rows(alloc, global.comma, global.semi, &cards.params, pairs)?;
     drop(cards.params);
-    check_lines(&rows)?;
+    let lines = checked_lines(&rows)?;
     let graph = Graph::check(alloc, &rows)?;
     let model = Model {
         start: cards.start,
@@ -58,6 +63,7 @@ pub fn read_file(alloc: Global, bytes: &[u8]) -> Result<ReadFile, FileFault>
     Ok(ReadFile {
         model,
         graph,
+        lines,
         end: cards.end,
     })
 }

@@ -73,16 +73,19 @@ pub fn read_rows(
     Ok(Rows::from_vec(rows))
 }
 
-/// TooManyLines exactly where the records of entities take more than 300,000 lines. It takes no
-/// memory.
-pub fn check_lines(rows: &Rows) -> Result<(), FileFault>
+/// How many lines the records of entities take, whatever the delimiters; TooManyLines exactly where
+/// they are more than 300,000. It takes no memory.
+pub fn checked_lines(rows: &Rows) -> Result<u64, FileFault>
     requires { AllByRecursion IsAcceptedEntity rows.now }
-    ensures few { IfOk result (λ _. (comma semi : ℕ) → lines_of comma semi rows.now ≤ most_lines) }
+    ensures count { IfOk result (λ lines. (comma semi : ℕ) →
+        lines ≡ lines_of comma semi rows.now) }
+    ensures few { IfOk result (λ lines. lines ≤ most_lines) }
     ensures many { IfErr result (λ fault. (fault ≡ FileFault.TooManyLines) ×
         ((comma semi : ℕ) → most_lines < lines_of comma semi rows.now)) }
 {
-    if line_count(rows) > MOST_LINES {
+    let lines = line_count(rows);
+    if lines > MOST_LINES {
         return Err(FileFault::TooManyLines);
     }
-    Ok(())
+    Ok(lines)
 }

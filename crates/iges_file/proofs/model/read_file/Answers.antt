@@ -65,16 +65,16 @@ returns-in_err-rows-clause-refused c =
     let all = rw c.len.ensures at c.in_ok-pairs.ensures.directory in
     rw (p.1, p.2) (rows_refused c.args.bytes.now c.in_ok-cards.cards c.in_ok-global.global c.in_ok-pairs.pairs.items c.in_err-rows.field-0.0 c.in_ok-cards.ensures.fixed_form whole all c.in_err-rows.ensures.first_fault)
 
-pub check_lines-requires : goal.check_lines-requires
-check_lines-requires c = c.in_ok-rows.ensures.accepted
+pub checked_lines-requires : goal.checked_lines-requires
+checked_lines-requires c = c.in_ok-rows.ensures.accepted
 
-pub returns-in_err-check_lines-clause-refused : goal.returns-in_err-check_lines-clause-refused
-returns-in_err-check_lines-clause-refused c =
-    let p = err_from_is_err_and c.from_residual-in_err-check_lines.result c.from_residual-in_err-check_lines.ensures.1 in
+pub returns-in_err-lines-clause-refused : goal.returns-in_err-lines-clause-refused
+returns-in_err-lines-clause-refused c =
+    let p = err_from_is_err_and c.from_residual-in_err-lines.result c.from_residual-in_err-lines.ensures.1 in
     let whole = rw c.as_slice.ensures at c.in_ok-global.ensures.found in
     let all = rw c.len.ensures at c.in_ok-pairs.ensures.directory in
-    let many = c.in_err-check_lines.ensures.many in
-    rw (p.1, p.2) (lines_refused c.args.bytes.now c.in_ok-cards.cards c.in_ok-global.global c.in_ok-pairs.pairs.items c.in_ok-rows.rows c.in_err-check_lines.field-0.0 c.in_ok-cards.ensures.fixed_form whole all c.in_ok-rows.ensures.found many.0 (many.1 c.in_ok-global.global.comma c.in_ok-global.global.semi))
+    let many = c.in_err-lines.ensures.many in
+    rw (p.1, p.2) (lines_refused c.args.bytes.now c.in_ok-cards.cards c.in_ok-global.global c.in_ok-pairs.pairs.items c.in_ok-rows.rows c.in_err-lines.field-0.0 c.in_ok-cards.ensures.fixed_form whole all c.in_ok-rows.ensures.found many.0 (many.1 c.in_ok-global.global.comma c.in_ok-global.global.semi))
 
 pub check-requires : goal.check-requires
 check-requires c =
@@ -87,7 +87,7 @@ returns-in_err-graph-clause-refused c =
     let p = err_from_is_err_and c.from_residual-in_err-graph.result c.from_residual-in_err-graph.ensures.1 in
     let whole = rw c.as_slice.ensures at c.in_ok-global.ensures.found in
     let all = rw c.len.ensures at c.in_ok-pairs.ensures.directory in
-    let few : lines_of c.in_ok-global.global.comma c.in_ok-global.global.semi c.in_ok-rows.rows ≤ most_lines = c.in_ok-check_lines.ensures.few c.in_ok-global.global.comma c.in_ok-global.global.semi in
+    let few : lines_of c.in_ok-global.global.comma c.in_ok-global.global.semi c.in_ok-rows.rows ≤ most_lines = omega (arith, c.in_ok-lines.ensures.few, c.in_ok-lines.ensures.count c.in_ok-global.global.comma c.in_ok-global.global.semi) in
     rw (p.1, p.2) (graph_refused c.args.bytes.now c.in_ok-cards.cards c.in_ok-global.global c.in_ok-pairs.pairs.items c.in_ok-rows.rows c.in_err-graph.field-0.0 c.in_ok-cards.ensures.fixed_form whole all c.in_ok-rows.ensures.found few c.in_err-graph.ensures.first_fault)
 
 pub returns-clause-reads : goal.returns-clause-reads
@@ -103,9 +103,12 @@ returns-clause-reads c =
       globals = whole;
       directory = all;
       entities = c.in_ok-rows.ensures.found;
-      few = c.in_ok-check_lines.ensures.few c.in_ok-global.global.comma c.in_ok-global.global.semi;
+      few = omega (arith, c.in_ok-lines.ensures.few, c.in_ok-lines.ensures.count c.in_ok-global.global.comma c.in_ok-global.global.semi);
       sound = c.in_ok-graph.ensures.sound;
     }
+
+pub returns-clause-lines : goal.returns-clause-lines
+returns-clause-lines c = c.in_ok-lines.ensures.count c.in_ok-global.global.comma c.in_ok-global.global.semi
 
 pub returns-clause-accepted : goal.returns-clause-accepted
 returns-clause-accepted c =

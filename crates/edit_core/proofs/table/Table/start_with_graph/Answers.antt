@@ -2,8 +2,7 @@ use Rattle.std.proofs.Common.{◌≡◌, refl, sym, subst, ap, arith}
 use Rattle.iges_parameters.specs.Accepted.{IsAccepted, lines_of}
 use Rattle.edit_core.specs.declared.table.Frame.{Frame}
 use Rattle.edit_core.specs.Versions.{version_of}
-use Rattle.edit_core.proofs.Ready.{all_ready}
-use Rattle.edit_core.proofs.NextVersions.{known, opening_stamp, all_writable}
+use Rattle.edit_core.proofs.NextVersions.{known, opening_stamp}
 use Rattle.edit_core.proofs.table.Table.start_with_graph.Goals as goal
 
 pub stamps-requires-clause-known : goal.stamps-requires-clause-known
@@ -13,18 +12,14 @@ stamps-requires-clause-known c e has none =
     let below = known _ _ _ _ e c.in_ok-all.ensures none has.0 (omega (arith, within, size)) in
     absurd (omega (arith, below))
 
-pub line_count-requires : goal.line_count-requires
-line_count-requires c = all_writable c.args.model.rows (all_ready c.args.model.rows c.requires.accepted.entities)
-
 pub invariant_of-result : goal.invariant_of-result
 invariant_of-result c =
     let model = c.args.model in
     let frame = sym c.in_ok-new.ensures.ok in
-    let lines : c.line_count.result ≡ lines_of model.comma model.semi model.rows = omega (arith, c.line_count.ensures model.comma model.semi, c.requires.accepted.few_lines) in
     record {
       accepted = subst (λ (f : Frame). IsAccepted (version_of 0 f model.rows c.in_ok-stamps.stamps).model) frame c.requires.accepted;
       graph_of_rows = c.requires.graph;
-      lines_of_rows = subst (λ (f : Frame). c.line_count.result ≡ lines_of f.comma f.semi model.rows) frame lines;
+      lines_of_rows = subst (λ (f : Frame). c.args.lines ≡ lines_of f.comma f.semi model.rows) frame c.requires.lines;
       one_each = c.in_ok-stamps.ensures.one_each;
       few = omega arith;
     }
