@@ -1,5 +1,5 @@
-use crate::read_model;
-use iges_write::{append_model, canonical_file, write_model};
+use crate::read_file;
+use iges_write::{append_model, file_lines, write_model};
 use solid_base::{Bytes, word};
 use std::alloc::{AllocError, Global};
 
@@ -41,12 +41,12 @@ fn writes_what_it_reads(rt: HostRuntime) -> Result<(), AllocError> {
     let alloc = rt.alloc();
     let bytes = text_of(alloc, &LINES)?;
     assert!(rt; bytes.len() <= 10_000);
-    match read_model(alloc, &bytes) {
-        Ok((model, _end)) => {
+    match read_file(alloc, &bytes) {
+        Ok(read) => {
+            let model = read.model;
             assert_eq!(rt; write_model(alloc, &model)?.as_slice(), bytes.as_slice());
-            let file = canonical_file(alloc, &model)?;
-            assert_eq!(rt; file.text.as_slice(), bytes.as_slice());
-            assert_eq!(rt; file.lines, 19);
+            assert_eq!(rt; read.lines, 6);
+            assert_eq!(rt; file_lines(alloc, &model, read.lines)?, 19);
             let mut out = word(alloc, b"0 EXPORT 19\n")?;
             assert_eq!(rt; append_model(alloc, &mut out, &model)?, 19);
             assert_eq!(rt; &out.as_slice()[12..], bytes.as_slice());

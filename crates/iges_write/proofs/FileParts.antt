@@ -1,10 +1,10 @@
 -- The whole file: its sections one after the other, and how many lines they have.
-use Rattle.std.proofs.Common.{◌≡◌, ℕ, suc, ◌+◌, ◌*◌, ◌≤◌, List, [], ◌∷◌, ◌++◌, length, refl, ap, ◌∙◌, arith, append-nil, length-append}
+use Rattle.std.proofs.Common.{◌≡◌, ℕ, suc, ◌+◌, ◌*◌, ◌≤◌, List, [], ◌∷◌, ◌++◌, length, refl, ap, ◌∙◌, arith, append_assoc, append-nil, length-append}
 use Rattle.std.specs.List.{concat}
 use Rattle.std.proofs.lemmas.List.Folds.{concat-append}
 use Rattle.solid_base.specs.declared.entities.Entity.{Entity}
 use Rattle.solid_base.specs.declared.entities.Model.{Model}
-use Rattle.iges_parameters.specs.Accepted.{IsAccepted, global_text, most_section_lines}
+use Rattle.iges_parameters.specs.Accepted.{IsAccepted, lines_of, global_text, most_section_lines}
 use Rattle.iges_write.specs.declared.files.LineCounts.{LineCounts}
 use Rattle.iges_write.specs.Cards.{card, cards}
 use Rattle.iges_write.specs.CanonicalFile.{global_lines, entry_lines, directory_lines, parameter_lines, groups_of, canonical_lines, canonical_text}
@@ -57,6 +57,18 @@ sections_joined model =
     ∙ ap (λ (x : List ℕ). x ++ t) (concat-append ((s ++ g) ++ d) p
     ∙ ap (λ (x : List ℕ). x ++ concat p) (concat-append (s ++ g) d ∙ ap (λ (x : List ℕ). x ++ concat d) (concat-append s g)))
 
+-- the sections and the terminate line, written after other bytes
+pub sections_after : (model : Model) (before : List ℕ)
+    → ((((before ++ concat (cards 83 1 model.start)) ++ concat (cards 71 1 (global_lines model))) ++ concat (cards 68 1 (directory_lines model))) ++ concat (cards 80 1 (parameter_lines model)))
+    ++ card 84 1 (groups_of model) ≡ before ++ canonical_text model
+sections_after model before =
+    let s = concat (cards 83 1 model.start) in
+    let g = concat (cards 71 1 (global_lines model)) in
+    let d = concat (cards 68 1 (directory_lines model)) in
+    let p = concat (cards 80 1 (parameter_lines model)) in
+    let t = card 84 1 (groups_of model) in
+    rw (sections_joined model, append_assoc before s g, append_assoc before (s ++ g) d, append_assoc before ((s ++ g) ++ d) p, append_assoc before (((s ++ g) ++ d) ++ p) t) refl
+
 pub lines_counted : (model : Model) → length (canonical_lines model)
     ≡ (length model.start + length (global_lines model)) + length (directory_lines model) + length (parameter_lines model) + 1
 unfolding canonical_lines
@@ -76,4 +88,15 @@ lines_counted model =
       length-cards 71 1 (global_lines model),
       length-cards 68 1 (directory_lines model),
       length-cards 80 1 (parameter_lines model),
+    )
+
+-- the lines of a file, by the lines of its sections
+pub file_counted : (model : Model) (globals : List (List ℕ)) → IsAccepted model → globals ≡ global_lines model
+    → (length model.start + length globals + 2 * length model.rows + lines_of model.comma model.semi model.rows + 1 ≡ length (canonical_lines model)) × (length (canonical_lines model) ≤ 20499999)
+file_counted model globals h is =
+    let laid = ap (length {A = List ℕ}) is in
+    let entries = entries_count model.comma model.semi [] model.rows in
+    let records = records_count model.comma model.semi [] model.rows in (
+      omega (arith, lines_counted model, laid, entries, records),
+      omega (arith, lines_counted model, h.few_start, few_globals model h, few_entries model h, few_parameters model h),
     )

@@ -1,6 +1,7 @@
 ghost use Rattle.std.specs.Prelude.{◌≡◌, ◌≤◌, ◌<◌, ◌+◌, ◌^◌, ◌++◌, ◌∷◌, length, take, drop};
 ghost use Rattle.std.specs.Prelude.{IfOk, OnOk, IfSome, None, replicate, decimal};
 ghost use Rattle.std.specs.List.{concat};
+ghost use mathlib.Core.List.{IsPrefix};
 ghost use Rattle.iges_write.specs.Cards.{filled, right_aligned, card, cards};
 ghost use Rattle.iges_write.specs.Cards.{lines_wanted, lines_in};
 ghost use Rattle.iges_write.specs.CanonicalFile.{with_number};
@@ -16,11 +17,13 @@ pub const TEXT_COLUMNS: usize = 72;
 /// The columns of a card in which its number in the section stands.
 pub const NUMBER_COLUMNS: usize = 7;
 
-fn push_blanks(out: &mut Vec<u8>, count: usize) -> Result<(), AllocError>
-    ensures { OnOk result (out.new.items ≡ out.old.items ++ replicate count 32) }
+/// Writes blanks, as many as a card has columns or fewer.
+fn push_blanks(out: &mut Bytes, count: usize) -> Result<(), AllocError>
+    requires { count ≤ 72 }
+    ensures ok { OnOk result (out.new ≡ out.old ++ replicate count 32) }
+    ensures front { IsPrefix out.old out.new }
 {
-    let size = out.len().checked_add(count).ok_or(AllocError)?;
-    out.resize(size, b' ')
+    out.extend_from_slice(&[b' '; TEXT_COLUMNS][..count])
 }
 
 /// A number right aligned in so many columns, or none where it has more digits than columns.
@@ -45,9 +48,10 @@ fn columns_of<const N: usize>(number: u32) -> Option<[u8; N]>
 }
 
 /// Writes a number right aligned in so many columns.
-pub fn push_number<const N: usize>(out: &mut Vec<u8>, number: u32) -> Result<(), AllocError>
+pub fn push_number<const N: usize>(out: &mut Bytes, number: u32) -> Result<(), AllocError>
     requires { N ≤ 80 }
-    ensures { OnOk result (out.new.items ≡ out.old.items ++ right_aligned N number) }
+    ensures ok { OnOk result (out.new ≡ out.old ++ right_aligned N number) }
+    ensures front { IsPrefix out.old out.new }
 {
     match columns_of::<N>(number) {
         Some(columns) => out.extend_from_slice(&columns),
@@ -60,10 +64,11 @@ pub fn push_number<const N: usize>(out: &mut Vec<u8>, number: u32) -> Result<(),
 
 /// Makes a card of the columns that were written from a place on.
 #[tactic(auto, unfolding(crate::specs::Cards::card))]
-pub fn end_card(out: &mut Vec<u8>, start: usize, letter: u8, number: u32) -> Result<(), AllocError>
-    requires { start ≤ length out.old.items }
-    ensures { OnOk result (out.new.items
-        ≡ take start out.old.items ++ card letter number (drop start out.old.items)) }
+pub fn end_card(out: &mut Bytes, start: usize, letter: u8, number: u32) -> Result<(), AllocError>
+    requires { start ≤ length out.old }
+    ensures ok { OnOk result (out.new
+        ≡ take start out.old ++ card letter number (drop start out.old)) }
+    ensures front { IsPrefix out.old out.new }
 {
     let columns = out.len() - start;
     push_blanks(out, TEXT_COLUMNS.saturating_sub(columns))?;
@@ -74,13 +79,9 @@ pub fn end_card(out: &mut Vec<u8>, start: usize, letter: u8, number: u32) -> Res
 }
 
 /// Writes a card.
-pub fn push_card(
-    out: &mut Vec<u8>,
-    letter: u8,
-    number: u32,
-    columns: &[u8],
-) -> Result<(), AllocError>
-    ensures { OnOk result (out.new.items ≡ out.old.items ++ card letter number columns.now) }
+pub fn push_card(out: &mut Bytes, letter: u8, number: u32, columns: &[u8]) -> Result<(), AllocError>
+    ensures ok { OnOk result (out.new ≡ out.old ++ card letter number columns.now) }
+    ensures front { IsPrefix out.old out.new }
 {
     let start = out.len();
     out.extend_from_slice(columns)?;
@@ -88,9 +89,10 @@ pub fn push_card(
 }
 
 /// Writes the cards of a section, numbered from 1.
-pub fn push_cards(out: &mut Vec<u8>, letter: u8, lines: &[Bytes]) -> Result<(), AllocError>
+pub fn push_cards(out: &mut Bytes, letter: u8, lines: &[Bytes]) -> Result<(), AllocError>
     requires { length lines.now < 2 ^ 31 }
-    ensures { OnOk result (out.new.items ≡ out.old.items ++ concat (cards letter 1 lines.now)) }
+    ensures ok { OnOk result (out.new ≡ out.old ++ concat (cards letter 1 lines.now)) }
+    ensures front { IsPrefix out.old out.new }
 {
     let mut number = 1;
     for line in lines {
@@ -102,13 +104,14 @@ pub fn push_cards(out: &mut Vec<u8>, letter: u8, lines: &[Bytes]) -> Result<(), 
 
 /// Writes a parameter line of an entity.
 fn push_parameter_card(
-    out: &mut Vec<u8>,
+    out: &mut Bytes,
     entity: u32,
     number: u32,
     line: &[u8],
 ) -> Result<(), AllocError>
-    ensures { OnOk result (out.new.items ≡ out.old.items
+    ensures ok { OnOk result (out.new ≡ out.old
         ++ card 80 number (filled 64 line.now ++ 32 ∷ right_aligned 7 entity)) }
+    ensures front { IsPrefix out.old out.new }
 {
     let start = out.len();
     out.extend_from_slice(line)?;
@@ -120,15 +123,11 @@ fn push_parameter_card(
 
 /// Writes the parameter lines in which an entity's record stands, numbered on from a number, and
 /// gives how many they are.
-pub fn push_record(
-    out: &mut Vec<u8>,
-    entity: u32,
-    first: u32,
-    text: &[u8],
-) -> Result<u32, AllocError>
+pub fn push_record(out: &mut Bytes, entity: u32, first: u32, text: &[u8]) -> Result<u32, AllocError>
     requires { first + lines_wanted 64 (length text.now) < 2 ^ 31 }
-    ensures written { OnOk result (out.new.items ≡ out.old.items
+    ensures written { OnOk result (out.new ≡ out.old
         ++ concat (cards 80 first (with_number entity (lines_in 64 text.now)))) }
+    ensures front { IsPrefix out.old out.new }
     ensures count { IfOk result (λ count. count ≡ lines_wanted 64 (length text.now)) }
 {
     let mut number = first;

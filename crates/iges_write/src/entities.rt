@@ -1,6 +1,7 @@
 ghost use Rattle.std.specs.Prelude.{◌≡◌, ◌≤◌, ◌<◌, ◌+◌, ◌*◌, ◌^◌, ◌++◌, [], ◌∷◌, length, IfOk};
 ghost use Rattle.std.specs.Prelude.{OnOk};
 ghost use Rattle.std.specs.List.{concat};
+ghost use mathlib.Core.List.{IsPrefix};
 ghost use Rattle.iges_fields.specs.Delimiters.{AreDelimiters};
 ghost use Rattle.iges_parameters.specs.Accepted.{IsAccepted, IsAcceptedEntity, lines_of};
 ghost use Rattle.iges_parameters.specs.Writing.{type_of_row, form_of_row, matrix_of_row};
@@ -73,9 +74,10 @@ fn matrix_of_row(row: &Row) -> u32
 
 /// Writes columns 1 to 72 of an entity's first directory line.
 #[tactic(auto, unfolding(crate::specs::CanonicalFile::entry_first))]
-fn push_entry_first(out: &mut Vec<u8>, first: u32, entity: &Entity) -> Result<(), AllocError>
+fn push_entry_first(out: &mut Bytes, first: u32, entity: &Entity) -> Result<(), AllocError>
     requires { length entity.now.attrs ≡ 96 }
-    ensures { OnOk result (out.new.items ≡ out.old.items ++ entry_first first entity.now) }
+    ensures ok { OnOk result (out.new ≡ out.old ++ entry_first first entity.now) }
+    ensures front { IsPrefix out.old out.new }
 {
     let (four, rest) = entity.attrs.as_slice().split_at(32);
     let two = &rest[..16];
@@ -88,9 +90,10 @@ fn push_entry_first(out: &mut Vec<u8>, first: u32, entity: &Entity) -> Result<()
 
 /// Writes columns 1 to 72 of an entity's second directory line.
 #[tactic(auto, unfolding(crate::specs::CanonicalFile::entry_second))]
-fn push_entry_second(out: &mut Vec<u8>, count: u32, entity: &Entity) -> Result<(), AllocError>
+fn push_entry_second(out: &mut Bytes, count: u32, entity: &Entity) -> Result<(), AllocError>
     requires { length entity.now.attrs ≡ 96 }
-    ensures { OnOk result (out.new.items ≡ out.old.items ++ entry_second count entity.now) }
+    ensures ok { OnOk result (out.new ≡ out.old ++ entry_second count entity.now) }
+    ensures front { IsPrefix out.old out.new }
 {
     let attrs = entity.attrs.as_slice();
     push_number::<FIELD_COLUMNS>(out, type_of_row(&entity.row))?;
@@ -102,14 +105,15 @@ fn push_entry_second(out: &mut Vec<u8>, count: u32, entity: &Entity) -> Result<(
 
 /// Writes an entity's first directory line.
 fn push_first_card(
-    out: &mut Vec<u8>,
+    out: &mut Bytes,
     number: u32,
     first: u32,
     entity: &Entity,
 ) -> Result<(), AllocError>
     requires { length entity.now.attrs ≡ 96 }
-    ensures { OnOk result (out.new.items
-        ≡ out.old.items ++ card 68 number (entry_first first entity.now)) }
+    ensures ok { OnOk result (out.new
+        ≡ out.old ++ card 68 number (entry_first first entity.now)) }
+    ensures front { IsPrefix out.old out.new }
 {
     let start = out.len();
     push_entry_first(out, first, entity)?;
@@ -118,14 +122,15 @@ fn push_first_card(
 
 /// Writes an entity's second directory line.
 fn push_second_card(
-    out: &mut Vec<u8>,
+    out: &mut Bytes,
     number: u32,
     count: u32,
     entity: &Entity,
 ) -> Result<(), AllocError>
     requires { length entity.now.attrs ≡ 96 }
-    ensures { OnOk result (out.new.items
-        ≡ out.old.items ++ card 68 number (entry_second count entity.now)) }
+    ensures ok { OnOk result (out.new
+        ≡ out.old ++ card 68 number (entry_second count entity.now)) }
+    ensures front { IsPrefix out.old out.new }
 {
     let start = out.len();
     push_entry_second(out, count, entity)?;
@@ -133,17 +138,13 @@ fn push_second_card(
 }
 
 /// Writes the two directory lines of an entity.
-fn push_entry(
-    out: &mut Vec<u8>,
-    place: Place,
-    count: u32,
-    entity: &Entity,
-) -> Result<(), AllocError>
+fn push_entry(out: &mut Bytes, place: Place, count: u32, entity: &Entity) -> Result<(), AllocError>
     requires attributes { length entity.now.attrs ≡ 96 }
     requires number { place.number < 2 ^ 31 }
-    ensures { OnOk result (out.new.items ≡ out.old.items
+    ensures ok { OnOk result (out.new ≡ out.old
         ++ (card 68 place.number (entry_first place.first entity.now)
         ++ card 68 (place.number + 1) (entry_second count entity.now))) }
+    ensures front { IsPrefix out.old out.new }
 {
     push_first_card(out, place.number, place.first, entity)?;
     push_second_card(out, place.number + 1, count, entity)
@@ -159,8 +160,8 @@ struct Place {
 /// Writes the two directory lines of an entity into one text, and the parameter lines in which its
 /// record stands into another, and gives how many parameter lines there are.
 fn push_entity(
-    directory: &mut Vec<u8>,
-    params: &mut Vec<u8>,
+    directory: &mut Bytes,
+    params: &mut Bytes,
     entity: &Entity,
     text: &[u8],
     place: Place,
@@ -168,11 +169,12 @@ fn push_entity(
     requires attributes { length entity.now.attrs ≡ 96 }
     requires number { place.number < 2 ^ 31 }
     requires lines { place.first + lines_wanted 64 (length text.now) < 2 ^ 31 }
-    ensures directory { OnOk result (directory.new.items ≡ directory.old.items
+    ensures directory { OnOk result (directory.new ≡ directory.old
         ++ (card 68 place.number (entry_first place.first entity.now)
         ++ card 68 (place.number + 1)
         (entry_second (lines_wanted 64 (length text.now)) entity.now))) }
-    ensures params { OnOk result (params.new.items ≡ params.old.items ++ concat
+    ensures front { IsPrefix directory.old directory.new }
+    ensures params { OnOk result (params.new ≡ params.old ++ concat
         (cards 80 place.first (with_number place.number (lines_in 64 text.now)))) }
     ensures count { IfOk result (λ count. count ≡ lines_wanted 64 (length text.now)) }
 {
@@ -185,15 +187,16 @@ fn push_entity(
 /// how many parameter lines there are.
 pub fn push_entities(
     alloc: Global,
-    directory: &mut Vec<u8>,
-    params: &mut Vec<u8>,
+    directory: &mut Bytes,
+    params: &mut Bytes,
     model: &Model,
 ) -> Result<u32, AllocError>
     requires { IsAccepted model.now }
-    ensures directory { OnOk result (directory.new.items
-        ≡ directory.old.items ++ concat (cards 68 1 (directory_lines model.now))) }
-    ensures params { OnOk result (params.new.items
-        ≡ params.old.items ++ concat (cards 80 1 (parameter_lines model.now))) }
+    ensures directory { OnOk result (directory.new
+        ≡ directory.old ++ concat (cards 68 1 (directory_lines model.now))) }
+    ensures front { IsPrefix directory.old directory.new }
+    ensures params { OnOk result (params.new
+        ≡ params.old ++ concat (cards 80 1 (parameter_lines model.now))) }
     ensures count { IfOk result (λ count. count ≡ length (parameter_lines model.now)) }
 {
     let mut place = Place {

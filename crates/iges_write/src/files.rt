@@ -1,8 +1,9 @@
 ghost use Rattle.std.specs.Prelude.{◌≡◌, ◌≤◌, ◌<◌, ◌+◌, ◌*◌, ◌^◌, ◌++◌, [], ◌∷◌, length, IfOk};
 ghost use Rattle.std.specs.Prelude.{OnOk, OnErr};
 ghost use Rattle.std.specs.List.{concat};
+ghost use mathlib.Core.List.{IsPrefix};
 ghost use Rattle.solid_base.specs.declared.entities.Token.TheVariants as Token;
-ghost use Rattle.iges_parameters.specs.Accepted.{IsAccepted};
+ghost use Rattle.iges_parameters.specs.Accepted.{IsAccepted, lines_of};
 ghost use Rattle.iges_write.specs.Cards.{right_aligned, card, cards};
 ghost use Rattle.iges_write.specs.CanonicalFile.{group, groups, groups_of, global_lines};
 ghost use Rattle.iges_write.specs.CanonicalFile.{directory_lines, parameter_lines};
@@ -13,13 +14,6 @@ use crate::entities::push_entities;
 use iges_fields::lay;
 use solid_base::{Bytes, Lines, Model, Token, Tokens};
 use std::alloc::{AllocError, Global};
-
-/// The file of a model, and how many lines it has.
-#[derive(Debug, Drop)]
-pub struct CanonicalFile {
-    pub text: Bytes,
-    pub lines: u32,
-}
 
 /// How many lines the sections of a file have.
 #[derive(Clone, Copy)]
@@ -74,8 +68,9 @@ fn lay_global(alloc: Global, model: &Model) -> Result<Lines, AllocError>
 }
 
 /// Writes a group of the terminate line: a section's letter, and the number of its last line.
-fn push_group(out: &mut Vec<u8>, letter: u8, count: u32) -> Result<(), AllocError>
-    ensures { OnOk result (out.new.items ≡ out.old.items ++ group letter count) }
+fn push_group(out: &mut Bytes, letter: u8, count: u32) -> Result<(), AllocError>
+    ensures ok { OnOk result (out.new ≡ out.old ++ group letter count) }
+    ensures front { IsPrefix out.old out.new }
 {
     out.push(letter)?;
     push_number::<NUMBER_COLUMNS>(out, count)
@@ -83,9 +78,10 @@ fn push_group(out: &mut Vec<u8>, letter: u8, count: u32) -> Result<(), AllocErro
 
 /// Writes the groups of the terminate line.
 #[tactic(auto, unfolding(crate::specs::CanonicalFile::groups))]
-fn push_groups(out: &mut Vec<u8>, counts: LineCounts) -> Result<(), AllocError>
-    ensures { OnOk result (out.new.items ≡ out.old.items
+fn push_groups(out: &mut Bytes, counts: LineCounts) -> Result<(), AllocError>
+    ensures ok { OnOk result (out.new ≡ out.old
         ++ groups counts.start counts.global counts.directory counts.parameter) }
+    ensures front { IsPrefix out.old out.new }
 {
     push_group(out, b'S', counts.start)?;
     push_group(out, b'G', counts.global)?;
@@ -94,9 +90,10 @@ fn push_groups(out: &mut Vec<u8>, counts: LineCounts) -> Result<(), AllocError>
 }
 
 /// Writes the terminate line.
-fn push_terminate(out: &mut Vec<u8>, counts: LineCounts) -> Result<(), AllocError>
-    ensures { OnOk result (out.new.items ≡ out.old.items ++ card 84 1
+fn push_terminate(out: &mut Bytes, counts: LineCounts) -> Result<(), AllocError>
+    ensures ok { OnOk result (out.new ≡ out.old ++ card 84 1
         (groups counts.start counts.global counts.directory counts.parameter)) }
+    ensures front { IsPrefix out.old out.new }
 {
     let start = out.len();
     push_groups(out, counts)?;
@@ -104,12 +101,13 @@ fn push_terminate(out: &mut Vec<u8>, counts: LineCounts) -> Result<(), AllocErro
 }
 
 /// Writes the sections of a model's file, and gives how many lines each has.
-fn push_sections(alloc: Global, text: &mut Vec<u8>, model: &Model) -> Result<LineCounts, AllocError>
+fn push_sections(alloc: Global, text: &mut Bytes, model: &Model) -> Result<LineCounts, AllocError>
     requires { IsAccepted model.now }
-    ensures text { OnOk result (text.new.items ≡ (((text.old.items
+    ensures text { OnOk result (text.new ≡ (((text.old
         ++ concat (cards 83 1 model.now.start)) ++ concat (cards 71 1 (global_lines model.now)))
         ++ concat (cards 68 1 (directory_lines model.now)))
         ++ concat (cards 80 1 (parameter_lines model.now))) }
+    ensures front { IsPrefix text.old text.new }
     ensures counts { IfOk result (λ counts. counts ≡ record {
       start = length model.now.start;
       global = length (global_lines model.now);
@@ -120,11 +118,11 @@ fn push_sections(alloc: Global, text: &mut Vec<u8>, model: &Model) -> Result<Lin
         counts.start + counts.global + counts.directory + counts.parameter < 2 ^ 31) }
 {
     let globals = lay_global(alloc, model)?;
-    let mut params = Vec::new(alloc);
+    let mut params = Bytes::new(alloc);
     push_cards(text, b'S', model.start.as_slice())?;
     push_cards(text, b'G', globals.as_slice())?;
     let parameter = push_entities(alloc, text, &mut params, model)?;
-    text.extend_from_slice(&params)?;
+    text.extend_from_slice(params.as_slice())?;
     Ok(LineCounts {
         start: model.start.len() as u32,
         global: globals.len() as u32,
@@ -133,45 +131,59 @@ fn push_sections(alloc: Global, text: &mut Vec<u8>, model: &Model) -> Result<Lin
     })
 }
 
-/// The file of a model that is served, in solidd's own layout of the fixed form (IGES 5.3, 2.2.4),
-/// and how many lines it has.
+/// Writes the file of a model that is served after a text, and gives how many lines it has.
+fn push_file(alloc: Global, text: &mut Bytes, model: &Model) -> Result<u32, AllocError>
+    requires { IsAccepted model.now }
+    ensures text { OnOk result (text.new ≡ text.old ++ canonical_text model.now) }
+    ensures front { IsPrefix text.old text.new }
+    ensures lines { IfOk result (λ lines. lines ≡ length (canonical_lines model.now)) }
+{
+    let counts = push_sections(alloc, text, model)?;
+    push_terminate(text, counts)?;
+    Ok(counts.start + counts.global + counts.directory + counts.parameter + 1)
+}
+
+/// Writes the file of a model that is served after a text, in solidd's own layout of the fixed form
+/// (IGES 5.3, 2.2.4), and gives how many lines it has.
 ///
 /// Each line has 80 columns and ends with LF. The start lines come first, as they were; then the
 /// global parameters, of which the first two are the delimiters; two directory lines an entity,
 /// with the fields that are kept unread in their places; the parameter lines; and the terminate
-/// line. AllocError when out of memory.
-pub fn canonical_file(alloc: Global, model: &Model) -> Result<CanonicalFile, AllocError>
-    requires { IsAccepted model.now }
-    ensures text { IfOk result (λ file. file.text ≡ canonical_text model.now) }
-    ensures lines { IfOk result (λ file. file.lines ≡ length (canonical_lines model.now)) }
-{
-    let mut text = Vec::new(alloc);
-    let counts = push_sections(alloc, &mut text, model)?;
-    push_terminate(&mut text, counts)?;
-    Ok(CanonicalFile {
-        text: Bytes::from_vec(text),
-        lines: counts.start + counts.global + counts.directory + counts.parameter + 1,
-    })
-}
-
-/// Writes the file of a model that is served, as `canonical_file` does. AllocError when out of
-/// memory.
-pub fn write_model(alloc: Global, model: &Model) -> Result<Bytes, AllocError>
-    requires { IsAccepted model.now }
-    ensures written { IfOk result (λ text. text ≡ canonical_text model.now) }
-{
-    Ok(canonical_file(alloc, model)?.text)
-}
-
-/// Writes the file of a model that is served after a text, as `canonical_file` does, and gives how
-/// many lines it has. AllocError when out of memory; the text is then unchanged.
+/// line. AllocError when out of memory; the text is then unchanged.
 pub fn append_model(alloc: Global, out: &mut Bytes, model: &Model) -> Result<u32, AllocError>
     requires { IsAccepted model.now }
     ensures written { OnOk result (out.new ≡ out.old ++ canonical_text model.now) }
     ensures lines { IfOk result (λ lines. lines ≡ length (canonical_lines model.now)) }
     ensures unchanged { OnErr result (out.new ≡ out.old) }
 {
-    let file = canonical_file(alloc, model)?;
-    out.extend_from_slice(file.text.as_slice())?;
-    Ok(file.lines)
+    let start = out.len();
+    match push_file(alloc, out, model) {
+        Ok(lines) => Ok(lines),
+        Err(fault) => {
+            out.truncate(start);
+            Err(fault)
+        }
+    }
+}
+
+/// The file of a model that is served, as `append_model` writes it. AllocError when out of memory.
+pub fn write_model(alloc: Global, model: &Model) -> Result<Bytes, AllocError>
+    requires { IsAccepted model.now }
+    ensures written { IfOk result (λ text. text ≡ canonical_text model.now) }
+{
+    let mut text = Bytes::new(alloc);
+    append_model(alloc, &mut text, model)?;
+    Ok(text)
+}
+
+/// How many lines the file of a model has that is served, whose records take so many. AllocError
+/// when out of memory.
+pub fn file_lines(alloc: Global, model: &Model, records: u64) -> Result<u32, AllocError>
+    requires accepted { IsAccepted model.now }
+    requires records { records ≡ lines_of model.now.comma model.now.semi model.now.rows }
+    ensures { IfOk result (λ lines. lines ≡ length (canonical_lines model.now)) }
+{
+    let globals = lay_global(alloc, model)?;
+    let directory = 2 * model.rows.len() as u32;
+    Ok(model.start.len() as u32 + globals.len() as u32 + directory + records as u32 + 1)
 }

@@ -8,4 +8,4 @@ mod cards;
 mod entities;
 mod files;
 
-pub use files::{CanonicalFile, append_model, canonical_file, write_model};
+pub use files::{append_model, file_lines, write_model};

@@ -1,4 +1,5 @@
 use Rattle.std.proofs.Common.{rules, arith, ◌≡◌, ◌∷◌, ◌++◌, ◌<◌, List, ℕ, length, drop, min, sym, ap, ◌∙◌, length-drop}
+use Rattle.solid_base.proofs.Slices.{prefix_trans}
 use Rattle.iges_write.specs.Cards.{filled, right_aligned, lines_in}
 use Rattle.iges_write.specs.CanonicalFile.{with_number}
 use Rattle.iges_write.proofs.CardSteps.{one_more, no_more}
@@ -23,7 +24,8 @@ loop-rest-preserved c =
     let columns : List ℕ = filled 64 line ++ 32 ∷ right_aligned 7 c.args.entity in
     record {
       number = omega (arith, l.invariant.number, some, size, fewer, length-drop k rest);
-      so_far = one_more 80 l.number l.out.items c.push_parameter_card.new.out.items columns (with_number c.args.entity (lines_in 64 rest)) (with_number c.args.entity (lines_in 64 after)) _ left c.in_ok-push_parameter_card.ensures l.invariant.so_far;
+      so_far = one_more 80 l.number l.out c.push_parameter_card.new.out columns (with_number c.args.entity (lines_in 64 rest)) (with_number c.args.entity (lines_in 64 after)) _ left c.in_ok-push_parameter_card.ensures.ok l.invariant.so_far;
+      front = prefix_trans c.args.out.now l.out c.push_parameter_card.new.out l.invariant.front c.in_ok-push_parameter_card.ensures.front;
     }
 
 pub returns-clause-written : goal.returns-clause-written
@@ -31,4 +33,4 @@ returns-clause-written c =
     let l = c.loop-rest in
     let rest = l.rest.now in
     let none : length rest ≡ 0 = grind (arith, c.is_empty.ensures, c.loop-rest-test.false) in
-    no_more 80 l.number l.out.items (with_number c.args.entity (lines_in 64 rest)) _ (ap (with_number c.args.entity) (no_lines rest none)) l.invariant.so_far
+    no_more 80 l.number l.out (with_number c.args.entity (lines_in 64 rest)) _ (ap (with_number c.args.entity) (no_lines rest none)) l.invariant.so_far
