@@ -87,7 +87,7 @@ fn main(rt: HostRuntime) -> io::Result<()> {
         return Ok(());
     }
     if let Ok(read) = read_file(rt.alloc(), bytes.as_slice()) {
-        let mut book = Book::start_with_graph(rt.alloc(), read.model, read.graph)?;
+        let mut book = Book::start_with_graph(rt.alloc(), read.model, read.graph, read.lines)?;
         let evaluated = ask(rt.alloc(), &mut book, afresh, points, times)?;
         println!(&rt; "{evaluated}")?;
     }

@@ -1,6 +1,7 @@
 -- An export has one text, and so each question has one answer.
 use Rattle.std.proofs.Common.{◌≡◌, ℕ, ◌*◌, List, [], ◌∷◌, ◌++◌, length, codes, decimal, refl, sym, ap, subst, ◌∙◌, append_assoc, append-nil, arith}
 use Rattle.std.specs.List.{concat}
+use mathlib.Core.List.{IsPrefix}
 use Rattle.std.proofs.lemmas.List.Folds.{concat-append}
 use Rattle.solid_base.specs.declared.entities.Model.{Model}
 use Rattle.iges_write.specs.Cards.{card, cards, filled, right_aligned}
@@ -48,11 +49,11 @@ export_some model =
     )
 
 -- a file is pushed without its last byte, after how many lines it has
-pub pushed_export : (model : Model) (out named counted begun new front : List ℕ) (lines : ℕ) → named ≡ out ++ codes "EXPORT "
-    → counted ≡ named ++ decimal lines → begun ≡ counted ++ codes "\n" → new ≡ begun ++ front → lines ≡ length (canonical_lines model)
-    → ((e : List ℕ) (byte : ℕ) → canonical_text model ≡ e ++ byte ∷ [] → front ≡ e) → (body : List ℕ) × IsExport model body × (new ≡ out ++ body)
+pub pushed_export : (model : Model) (out named counted begun new : List ℕ) (lines : ℕ) → named ≡ out ++ codes "EXPORT "
+    → counted ≡ named ++ decimal lines → begun ≡ counted ++ codes "\n" → lines ≡ length (canonical_lines model)
+    → ((e : List ℕ) → canonical_text model ≡ e ++ codes "\n" → new ≡ begun ++ e) → (body : List ℕ) × IsExport model body × (new ≡ out ++ body)
 unfolding export_some
-pushed_export model out named counted begun new front lines first second third last many cut =
+pushed_export model out named counted begun new lines first second third many cut =
     let some = export_some model in
     let e = file_ends model in
     let name = codes "EXPORT " in
@@ -60,8 +61,19 @@ pushed_export model out named counted begun new front lines first second third l
     let feed = codes "\n" in (
       some.0,
       some.1,
-      rw (last, cut e.0 10 e.1, third, second, first, many, append_assoc out name number, append_assoc out (name ++ number) feed, append_assoc out ((name ++ number) ++ feed) e.0, append_assoc (name ++ number) feed e.0) refl,
+      rw (cut e.0 e.1, third, second, first, many, append_assoc out name number, append_assoc out (name ++ number) feed, append_assoc out ((name ++ number) ++ feed) e.0, append_assoc (name ++ number) feed e.0) refl,
     )
+
+-- a file is pushed, and its last byte dropped
+pub cut_file : (model : Model) (before whole cut : List ℕ) → whole ≡ before ++ canonical_text model
+    → ((front : List ℕ) (byte : ℕ) → whole ≡ front ++ byte ∷ [] → cut ≡ front) → (front : List ℕ) → canonical_text model ≡ front ++ codes "\n" → cut ≡ before ++ front
+cut_file model before whole cut put drops front ends =
+    drops (before ++ front) 10 (put ∙ ap (λ (x : List ℕ). before ++ x) ends ∙ sym (append_assoc before front (10 ∷ [])))
+
+pub cut_keeps : (model : Model) (before whole cut : List ℕ) → whole ≡ before ++ canonical_text model
+    → ((front : List ℕ) (byte : ℕ) → whole ≡ front ++ byte ∷ [] → cut ≡ front) → IsPrefix before cut
+cut_keeps model before whole cut put drops =
+    let e = file_ends model in (e.0, sym (cut_file model before whole cut put drops e.0 e.1))
 
 -- ---- and no other
 

@@ -1,4 +1,4 @@
-ghost use Rattle.std.specs.Prelude.{◌≡◌, ℕ, ◌*◌, ◌++◌, List, [], ◌∷◌, length, OnOk, MatchOption};
+ghost use Rattle.std.specs.Prelude.{◌≡◌, ℕ, ◌*◌, ◌++◌, List, [], ◌∷◌, length, codes, OnOk, MatchOption};
 ghost use Rattle.std.specs.List.{AllByRecursion};
 ghost use mathlib.Core.List.{IsPrefix};
 ghost use Rattle.solid_base.specs.Graph.{weight_of};
@@ -6,6 +6,8 @@ ghost use Rattle.solid_base.specs.Ledgers.{counted, RisesUpTo};
 ghost use Rattle.solid_base.specs.Ranges.{IsLawfulRow};
 ghost use Rattle.solid_base.specs.References.{row_at};
 ghost use Rattle.entity_graph.specs.Opaque.{IsFirstOpaque};
+ghost use Rattle.iges_parameters.specs.Accepted.{IsAccepted};
+ghost use Rattle.iges_write.specs.CanonicalFile.{canonical_text};
 ghost use Rattle.solid_eval.specs.Solids.{solid_of};
 ghost use Rattle.solid_eval.specs.Uses.{leaf_count};
 ghost use Rattle.solid_questions.specs.Bodies.{IsBody};
@@ -19,10 +21,13 @@ ghost use Rattle.ask_core.specs.Answers.{cell_verdicts, refusal_on};
 use crate::cells::{cell_verdicts, entity_of};
 use edit_core::Table;
 use entity_graph::Graph;
-use iges_write::canonical_file;
-use solid_base::{Bytes, Ledger, Rows, push_decimal};
+use iges_write::{append_model, file_lines};
+use solid_base::{Bytes, Ledger, Model, Rows, push_decimal};
 use solid_questions::{Question, Refusal, push_body, refusal_of};
 use std::alloc::{AllocError, Global};
+
+/// How many bytes a line of a written file takes.
+const LINE_BYTES: usize = 81;
 
 /// Why a question about a model is refused, if it is.
 pub(crate) fn refusal(rows: &Rows, graph: &Graph, question: &Question) -> Option<Refusal>
@@ -101,14 +106,23 @@ pub(crate) fn push_answer_on<L: Ledger>(
     }
 }
 
-/// A text without its last byte, where it has one.
-fn without_last(text: &[u8]) -> &[u8]
-    ensures { (front : List ℕ) (byte : ℕ) → text.now ≡ front ++ byte ∷ [] → result.now ≡ front }
+/// Takes the last byte from a text, where it has one.
+fn drop_last(text: &mut Bytes)
+    ensures { (front : List ℕ) (byte : ℕ) → text.old ≡ front ++ byte ∷ [] → text.new ≡ front }
 {
-    match text {
-        [] => text,
-        [front @ .., _] => front,
-    }
+    text.truncate(text.len().saturating_sub(1));
+}
+
+/// Adds the file of a model, of which the last line isn't ended.
+fn push_file(alloc: Global, out: &mut Bytes, model: &Model) -> Result<(), AllocError>
+    requires { IsAccepted model.now }
+    ensures file { OnOk result ((front : List ℕ) → canonical_text model.now ≡ front ++ codes "\n" →
+        out.new ≡ out.old ++ front) }
+    ensures front { IsPrefix out.old out.new }
+{
+    append_model(alloc, out, model)?;
+    drop_last(out);
+    Ok(())
 }
 
 /// Adds the text of an export: how many lines the file of the model has, and these, of which the
@@ -119,11 +133,13 @@ fn push_export(alloc: Global, out: &mut Bytes, table: &Table) -> Result<(), Allo
     ensures front { IsPrefix out.old out.new }
 {
     table.obeys();
-    let file = canonical_file(alloc, &table.model(alloc)?)?;
+    let model = table.model(alloc)?;
+    let lines = file_lines(alloc, &model, table.lines())?;
+    out.reserve(LINE_BYTES * lines as usize)?;
     out.extend_from_slice(b"EXPORT ")?;
-    push_decimal(out, file.lines)?;
+    push_decimal(out, lines)?;
     out.extend_from_slice(b"\n")?;
-    out.extend_from_slice(without_last(file.text.as_slice()))
+    push_file(alloc, out, &model)
 }
 
 /// Adds the answer to a question about a version of a model to a text: the words of the refusal, or

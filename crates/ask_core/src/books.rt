@@ -1,7 +1,7 @@
 ghost use Rattle.std.specs.Prelude.{◌≡◌, ◌↔◌, ◌++◌, ◌<◌, ℕ, [], ◌∷◌, length, take};
 ghost use Rattle.std.specs.Prelude.{IfOk, IfErr, OnOk, OnErr, IsTrue};
 ghost use Rattle.std.specs.Arc.{arc_value};
-ghost use Rattle.iges_parameters.specs.Accepted.{IsAccepted};
+ghost use Rattle.iges_parameters.specs.Accepted.{IsAccepted, lines_of};
 ghost use Rattle.solid_questions.specs.Questions.{IsLawful};
 ghost use Rattle.memo_graph.specs.Memos.{IsMemo};
 ghost use Rattle.edit_core.specs.EditFaults.{IsOfText, IsOuter};
@@ -128,20 +128,23 @@ impl Book {
         Book::at_opening(alloc, opening, table)
     }
 
-    /// The same from the graph of the model's rows, as a reader gives it.
+    /// The same from the graph of the model's rows and how many lines their records take, as a
+    /// reader gives them.
     pub fn start_with_graph(
         alloc: Global,
         model: SolidModel,
         graph: Graph,
+        lines: u64,
     ) -> Result<Book, AllocError>
         requires accepted { IsAccepted model }
         requires graph { graph ≡ model.rows }
+        requires lines { lines ≡ lines_of model.comma model.semi model.rows }
         ensures opening { IfOk result (λ book. book.opening ≡ model) }
         ensures log { IfOk result (λ book. book.log ≡ []) }
         ensures memo { IfOk result (λ book. book.memo.entries ≡ []) }
     {
         let opening = Snapshot::of(&model);
-        let table = Table::start_with_graph(alloc, model, graph)?;
+        let table = Table::start_with_graph(alloc, model, graph, lines)?;
         Book::at_opening(alloc, opening, table)
     }
 

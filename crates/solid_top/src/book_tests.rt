@@ -639,7 +639,7 @@ fn a_book_starts_with_a_graph(rt: HostRuntime) -> Result<(), FileFault> {
     let file = file_of(&rt, alloc, &BALLS)?;
     assert!(rt; file.len() < 10_000);
     let read = read_file(alloc, file.as_slice())?;
-    let mut book = Book::start_with_graph(alloc, read.model, read.graph)?;
+    let mut book = Book::start_with_graph(alloc, read.model, read.graph, read.lines)?;
     let mut tally = Tally { count: 0 };
     expect_run(&rt, alloc, &mut book, &mut tally)?;
     assert_eq!(rt; tally.count, 2);

@@ -189,7 +189,7 @@ pub fn load_run(alloc: Global, n: u32) -> Result<Output, AllocError>
     let Ok(read) = read_file(alloc, input.as_slice()) else {
         return Err(AllocError);
     };
-    let mut book = Book::start_with_graph(alloc, read.model, read.graph)?;
+    let mut book = Book::start_with_graph(alloc, read.model, read.graph, read.lines)?;
     let counts = count_script(alloc, &mut book, &input.as_slice()[read.end..])?;
     Ok(Output {
         status: Status::Done,

@@ -124,7 +124,7 @@ fn answer_bytes<L: Ledger>(
         Ok(read) => read,
         Err(fault) => return refused(alloc, of_file(fault)?),
     };
-    let mut book = Book::start_with_graph(alloc, read.model, read.graph)?;
+    let mut book = Book::start_with_graph(alloc, read.model, read.graph, read.lines)?;
     let sessions = do_script(alloc, &mut book, &bytes[read.end..], leaves)?;
     Ok(Output {
         status: Status::Done,

@@ -205,7 +205,7 @@ fn serve_bytes<R: Threads + Wait + Sync, G: Gate>(
         Err(fault) => return refused(alloc, of_file(fault)?),
     };
     let sessions = read_script(alloc, &bytes[read.end..])?;
-    let book = Book::start_with_graph(alloc, read.model, read.graph)?;
+    let book = Book::start_with_graph(alloc, read.model, read.graph, read.lines)?;
     let (last, served) = serve_sessions(rt, alloc, book, sessions, gate)?;
     Ok(Output {
         status: Status::Done,

@@ -132,7 +132,7 @@ fn sessions_share_one_memo(rt: HostRuntime) -> Result<(), AllocError> {
     let Ok(read) = read_file(alloc, input.as_slice()) else {
         panic!(rt; "no file");
     };
-    let book = Book::start_with_graph(alloc, read.model, read.graph)?;
+    let book = Book::start_with_graph(alloc, read.model, read.graph, read.lines)?;
     let (turn, mut first) = Turn::new(alloc, book)?;
     let mut second = turn.split(&mut first);
     let at = Vec3 { x: 0, y: 0, z: 0 };
