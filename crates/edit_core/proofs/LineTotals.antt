@@ -11,7 +11,7 @@ use Rattle.edit_core.specs.Edits.{null_entity}
 use Rattle.edit_core.specs.Placing.{put, counted, counted_of}
 
 -- a null entity takes one line
-null_text : (comma semi : ℕ) → record_text comma semi row.Null [] ≡ 48 ∷ semi ∷ []
+pub null_text : (comma semi : ℕ) → record_text comma semi row.Null [] ≡ 48 ∷ semi ∷ []
 unfolding record_text parameters_of laid
 null_text comma semi = ap (λ (digits : List ℕ). laid 64 comma semi 0 (token.Whole digits ∷ [])) (decimal_digit 0 (omega arith))
 

@@ -1,6 +1,5 @@
 -- How often lines evaluate that are done one after the other over one book.
 use Rattle.std.proofs.Common.{◌≡◌, ◌≢◌, inl, inr, ℕ, ◌+◌, ◌≤◌, List, [], ◌∷◌, ◌++◌, length, refl, sym, subst, ◌∙◌, append-nil, arith}
-use mathlib.Core.List.{IsPrefix}
 use Rattle.solid_base.specs.declared.entities.Model.{Model}
 use Rattle.solid_base.proofs.Slices.{prefix_trans}
 use Rattle.solid_questions.specs.declared.questions.Question.{Question}

@@ -4,7 +4,10 @@ pub mod CommitsOnce
 pub mod OpeningOnly
 pub mod AnswersApart
 pub mod OneReading
+pub mod PrintedSessions
 pub mod Worked
+pub mod WorkedQuestions
+pub mod WorkedCommits
 pub mod RunsLegal
 pub mod OneRun
 pub mod RepliesMean

@@ -27,13 +27,13 @@ version_same v w h = cc
 version_none : (v : ℕ) → ◌≡◌ {A = Option ℕ} (Some v) None → ⊥
 version_none v h = cc
 
-same_version : (v w : ℕ) (body text : List ℕ) → with_version v body ≡ with_version w text → v ≡ w
+pub same_version : (v w : ℕ) (body text : List ℕ) → with_version v body ≡ with_version w text → v ≡ w
 same_version v w body text h = version_same v w (ap (λ (r : Reply). r.version) h)
 
-same_body : (a b : Reply) → a ≡ b → a.body ≡ b.body
+pub same_body : (a b : Reply) → a ≡ b → a.body ≡ b.body
 same_body a b h = ap (λ (r : Reply). r.body) h
 
-one_has_none : (v : ℕ) (body text : List ℕ) → with_version v body ≡ without_version text → ⊥
+pub one_has_none : (v : ℕ) (body text : List ℕ) → with_version v body ≡ without_version text → ⊥
 one_has_none v body text h = version_none v (ap (λ (r : Reply). r.version) h)
 
 first_byte_same : (body text : List ℕ) → body ≡ text → get_or body 0 0 ≡ get_or text 0 0

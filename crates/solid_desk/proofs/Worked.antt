@@ -1,6 +1,6 @@
--- Worked transcripts: one that is lawful, and for each rule one that isn't. Each question is which
--- version is the newest, so that nothing is evaluated.
-use Rattle.std.proofs.Common.{◌≡◌, ◌⊎◌, inl, inr, ℕ, zero, suc, ◌<◌, ◌≤◌, List, [], ◌∷◌, ◌++◌, map, codes, true, false, Some, slice_get, Contains, refl, sym, ap, subst, arith, Option, None, decimal}
+-- A worked transcript that is lawful. Each question is which version is the newest, so that nothing
+-- is evaluated.
+use Rattle.std.proofs.Common.{◌≡◌, inl, ℕ, zero, suc, ◌<◌, ◌≤◌, List, [], ◌∷◌, ◌++◌, map, codes, true, false, Some, slice_get, Contains, refl, sym, ap, subst, arith}
 use Rattle.std.proofs.lemmas.Fmt.{decimal_digit}
 use Rattle.solid_base.specs.declared.entities.Entity.{Entity}
 use Rattle.solid_base.specs.declared.entities.Model.{Model}
@@ -18,12 +18,9 @@ use Rattle.edit_core.specs.declared.changes.Change.TheVariants as change
 use Rattle.edit_core.specs.Batches.{Staged}
 use Rattle.edit_core.specs.Edits.{IsEdited}
 use Rattle.edit_core.specs.Versions.{LogEntry, IsVersion, opening_version, next_version}
-use Rattle.solid_desk.proofs.AnswersApart.{no_cancelled}
-use Rattle.solid_desk.proofs.CommitsOnce.{logged_once}
-use Rattle.solid_desk.proofs.OpeningOnly.{empty_log}
-use Rattle.solid_desk.specs.Outcomes.{Outcome, staged, committed, answered, cancelled, no_memory, with_version, without_version, reply_of, bad_line, refused}
+use Rattle.solid_desk.specs.Outcomes.{Outcome, staged, committed, answered, with_version, without_version, reply_of}
 use Rattle.solid_desk.specs.Sessions.{Standing, at_start}
-use Rattle.solid_desk.specs.Legal.{IsAnswered, IsSession, IsMade, IsBefore, IsLegal, IsAsked, AreSessions}
+use Rattle.solid_desk.specs.Legal.{IsAnswered, IsMade, IsBefore, IsLegal}
 
 -- ---- the newest version
 
@@ -133,72 +130,3 @@ module _ (opening after : Model) (text : RowText) (edited : IsEdited opening 0 (
     );
     entries = record { made = made; in_order = in_order };
   }
-
--- ---- unlawful ones, whatever the opening, the log and the texts
-
-module _ (opening : Model) (log : List LogEntry) (first second : List ℕ) where
-  -- version 0 after version 1
-  pub older_than_shown : ¬ IsSession opening log 0 at_start (newest ∷ newest ∷ []) (answered 1 first ∷ answered 0 second ∷ [])
-  older_than_shown h = (let older = h.1.0.shown.not_older in omega (arith, older))
-
-  -- the later version of a cancelled reply was shown too
-  pub older_than_cancelled : ¬ IsSession opening log 0 at_start (live_newest ∷ newest ∷ []) (cancelled 0 2 ∷ answered 1 second ∷ [])
-  older_than_cancelled h = (let older = h.1.0.shown.not_older in omega (arith, older))
-
-  pub held_and_cancelled : (v later : ℕ) → ¬ IsSession opening log 0 at_start (newest ∷ []) (cancelled v later ∷ [])
-  held_and_cancelled v later h = (let may : false ≡ true = h.0.may in cc)
-
-  pub cancelled_for_itself : (v : ℕ) → ¬ IsSession opening log 0 at_start (live_newest ∷ []) (cancelled v v ∷ [])
-  cancelled_for_itself v h = (let later_one = h.0.later_one in omega (arith, later_one))
-
-  -- a commit that makes a version that was shown before
-  pub commit_of_a_shown_version : (v : ℕ) → ¬ IsSession opening log 0 at_start (newest ∷ command.Commit ∷ []) (answered v first ∷ committed v ∷ [])
-  commit_of_a_shown_version v h = (let newer = h.1.0.newer in omega (arith, newer))
-
--- a number that is staged twice is staged once
-pub wrong_count : (opening : Model) (log : List LogEntry) (text : RowText) → ¬ IsSession opening log 0 at_start (command.Replace 1 text ∷ command.Drop 1 ∷ []) (staged 1 ∷ staged 2 ∷ [])
-wrong_count opening log text h = go h.1.0 where
-  go : (staged 2 ≡ staged 1) ⊎ (staged 2 ≡ no_memory) → ⊥
-  go (inl same) = cc
-  go (inr same) = cc
-
-module _ (opening : Model) (sessions : List (List Command)) (transcripts : List (List Reply)) (entry : LogEntry) where
-  -- one commit, two entries
-  pub logged_twice : ¬ IsLegal opening sessions (entry ∷ entry ∷ []) transcripts
-  logged_twice legal =
-      let both = logged_once opening sessions (entry ∷ entry ∷ []) transcripts 0 1 entry entry legal refl refl refl refl in
-      omega (arith, both)
-
--- an entry, and no commit
-pub made_by_none : (opening : Model) (transcripts : List (List Reply)) (entry : LogEntry) → ¬ IsLegal opening ((newest ∷ []) ∷ []) (entry ∷ []) transcripts
-made_by_none opening transcripts entry legal =
-    let empty = empty_log opening ((newest ∷ []) ∷ []) (entry ∷ []) transcripts legal (((λ same. cc), tt), tt) in
-    cc
-
--- ---- as a transcript, whatever the line may have come to: a held question is never given up
-
-module _ (opening : Model) (log : List LogEntry) (v later : ℕ) where
-  abbrev given_up : Reply
-  given_up = with_version v (codes "CANCELLED " ++ decimal later)
-
-  came_to : (outcome : Outcome) → given_up ≡ reply_of outcome → ¬ IsAsked opening log at_start question.Newest false outcome
-  came_to (bad_line f) same h = h
-  came_to (staged count) same h = h
-  came_to (committed w) same h = h
-  came_to (refused w f) same h = h
-  came_to (answered w text) same h = no_cancelled h.model question.Newest text later h.afresh (sym (ap (λ (r : Reply). r.body) same))
-  came_to (cancelled w other) same h = (let may : false ≡ true = h.may in cc)
-  came_to no_memory same h = (let none : ◌≡◌ {A = Option ℕ} (Some v) None = ap (λ (r : Reply). r.version) same in cc)
-
-  first_of : (r : Reply) (outcome : Outcome) → (r ∷ []) ∷ [] ≡ map (map reply_of) ((outcome ∷ []) ∷ []) → r ≡ reply_of outcome
-  first_of r outcome h = cc
-
-  none_printed : (outcomes : List (List Outcome)) → (given_up ∷ []) ∷ [] ≡ map (map reply_of) outcomes → ¬ AreSessions opening log 0 ((newest ∷ []) ∷ []) outcomes
-  none_printed [] same h = h
-  none_printed ([] ∷ rest) same h = h.0
-  none_printed ((outcome ∷ []) ∷ []) same h = came_to outcome (first_of given_up outcome same) h.0.0
-  none_printed ((outcome ∷ []) ∷ other ∷ rest) same h = h.1
-  none_printed ((outcome ∷ another ∷ more) ∷ rest) same h = h.0.1
-
-  pub held_transcript : ¬ IsLegal opening ((newest ∷ []) ∷ []) log ((given_up ∷ []) ∷ [])
-  held_transcript legal = none_printed legal.outcomes legal.printed legal.replies
