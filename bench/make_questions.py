@@ -20,6 +20,18 @@ from make_mixed import TYPES, primitive, spell
 from make_solids import Model, boolean_tree
 
 
+def make_model(rng, count):
+    """A tree of so many primitives of all kinds, and its number."""
+    model = Model()
+    operands = []
+    for i in range(count):
+        name = list(TYPES)[i % 7]
+        values, _, _ = primitive(rng, name, 9)
+        record = "%d,%s;" % (TYPES[name], ",".join(spell(v, 9) for v in values))
+        operands.append(model.add(TYPES[name], 0, record))
+    return model, model.add(180, 0, boolean_tree(rng, operands, 9))
+
+
 def section(rng, tree, lines):
     yield "@1 section %d 0.5 -12.8 -12.8 0.1 256 256" % tree
 
@@ -56,14 +68,7 @@ def main():
     parser.add_argument("--seed", type=int, default=1)
     options = parser.parse_args()
     rng = random.Random(options.seed)
-    model = Model()
-    operands = []
-    for i in range(options.operands):
-        name = list(TYPES)[i % 7]
-        values, _, _ = primitive(rng, name, 9)
-        record = "%d,%s;" % (TYPES[name], ",".join(spell(v, 9) for v in values))
-        operands.append(model.add(TYPES[name], 0, record))
-    tree = model.add(180, 0, boolean_tree(rng, operands, 9))
+    model, tree = make_model(rng, options.operands)
     model.write(sys.stdout)
     for line in QUESTIONS[options.questions](rng, tree, options.lines):
         sys.stdout.write(line + "\n")
