@@ -1,7 +1,6 @@
 -- A run goes from cell to cell.
-use Rattle.std.proofs.Common.{◌≡◌, ℕ, zero, suc, ◌+◌, ◌-◌, ◌*◌, ◌%◌, ◌^◌, ◌<◌, ◌≤◌, List, [], ◌∷◌, ◌++◌, length, take, drop, flat_map, map, slice_get, MatchOption, Option, None, Some, refl, sym, ap, ◌∙◌, subst, arith, length-append}
+use Rattle.std.proofs.Common.{◌≡◌, ℕ, suc, ◌+◌, ◌-◌, ◌*◌, ◌^◌, ◌<◌, ◌≤◌, List, [], ◌∷◌, ◌++◌, length, take, drop, map, slice_get, Option, None, Some, refl, sym, ap, ◌∙◌, subst, arith, length-append}
 use Rattle.std.specs.List.{AllByRecursion}
-use Rattle.std.proofs.Math.ListN.{drop_of_length-le}
 use Rattle.std.proofs.Math.Seq.{take-length}
 use Rattle.std.proofs.lemmas.List.{map-append, length-drop}
 use Rattle.solid_base.specs.declared.classes.Verdict.{Verdict}
@@ -15,14 +14,13 @@ use Rattle.fixed_enclosure.specs.declared.enclosures.Box3.{Box3}
 use Rattle.fixed_enclosure.specs.Places.{spans_of}
 use Rattle.fixed_enclosure.specs.Spans.{box_of}
 use Rattle.solid_eval.specs.Solids.{solid_of}
-use Rattle.solid_eval.specs.Uses.{Use, uses, leaf_count, use_verdict}
-use Rattle.solid_eval.specs.Written.{written}
+use Rattle.solid_eval.specs.Uses.{Use, leaf_count, use_verdict}
 use Rattle.solid_eval.specs.Walking.{uses_left}
 use Rattle.solid_eval.proofs.FromUses.{uses_counted}
 use Rattle.solid_eval.proofs.Uses.{count_exact}
 use Rattle.solid_eval.proofs.Heavy.{solid_weighs}
 use Rattle.solid_questions.specs.declared.questions.Question.{Question}
-use Rattle.solid_questions.specs.Questions.{IsLawful, entity_of}
+use Rattle.solid_questions.specs.Questions.{entity_of}
 use Rattle.solid_questions.specs.QuestionCells.{all_cells, cell, cell_count}
 use Rattle.solid_questions.proofs.Order.{count_is, cell_is}
 use Rattle.ask_core.specs.Answers.{cell_verdict}
@@ -30,10 +28,9 @@ use Rattle.ask_core.specs.Books.{AsksCells, IsNotRefused}
 use Rattle.ask_core.specs.Runs.{cell_uses, question_uses}
 use Rattle.ask_core.specs.Rounds.{uses_of_cell, uses_at, uses_ahead, IsAhead, IsCourse, IsAheadBy, IsGoing, done_of, uses_from_next}
 use Rattle.ask_core.specs.RunStates.{left_after}
-use Rattle.ask_core.specs.declared.course.Ahead.{Ahead}
 use Rattle.ask_core.specs.declared.course.Course.{Course}
 use Rattle.ask_core.proofs.CellLists.{list_of, joined_length, left_in_list, take_one_more, past_all}
-use Rattle.ask_core.proofs.OpenQuestions.{open_read, open_solid, open_count, some_cells}
+use Rattle.ask_core.proofs.OpenQuestions.{open_read, open_solid}
 
 pub accepted_lawful : (rows : List Entity) → AllByRecursion IsAcceptedEntity rows → AllByRecursion (λ (e : Entity). IsLawfulRow e.row) rows
 accepted_lawful [] h = tt

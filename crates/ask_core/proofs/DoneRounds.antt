@@ -1,13 +1,11 @@
 -- How many uses are done after rounds, and that it is one number.
-use Rattle.std.proofs.Common.{◌≡◌, ◌≢◌, ◌⊎◌, inl, inr, ℕ, zero, suc, ◌+◌, ◌-◌, ◌*◌, ◌<◌, ◌≤◌, ◌%◌, ◌/◌, Bool, not, cond, List, [], ◌∷◌, ◌++◌, length, take, drop, map, min, slice_get, Option, Some, refl, sym, ap, ◌∙◌, subst, arith, append_assoc, append-nil, length-append}
+use Rattle.std.proofs.Common.{◌≡◌, ◌≢◌, inl, inr, ℕ, suc, ◌+◌, ◌-◌, ◌*◌, ◌<◌, ◌≤◌, ◌%◌, ◌/◌, not, List, [], ◌∷◌, ◌++◌, length, take, drop, map, min, slice_get, Some, refl, sym, ap, ◌∙◌, subst, arith, append_assoc, append-nil, length-append}
 use Rattle.std.specs.List.{filter}
-use mathlib.Core.List.{IsPrefix}
 use Rattle.std.proofs.Math.Nat.{min-le_right}
 use Rattle.std.proofs.Math.Seq.{take-append-add}
 use Rattle.std.proofs.lemmas.Bool.{cases_lt}
 use Rattle.std.proofs.lemmas.List.{length-take, length-drop, map-append}
 use Rattle.std.proofs.lemmas.List.Elements.{filter-append}
-use Rattle.std.proofs.lemmas.Option.{slice_get_within}
 use Rattle.solid_base.specs.declared.entities.Model.{Model}
 use Rattle.solid_base.specs.References.{at_number}
 use Rattle.solid_eval.specs.Solids.{solid_of}
@@ -21,7 +19,7 @@ use Rattle.edit_core.proofs.Logs.{version_unique}
 use Rattle.edit_core.proofs.Placing.{at_odd}
 use Rattle.edit_core.proofs.StampsOfLogs.{stamp_unique}
 use Rattle.ask_core.specs.Machine.{SessionRun}
-use Rattle.ask_core.specs.Runs.{IsTaken, Stops, distinct, most_keys, most_uses, question_uses, use_key, use_keys}
+use Rattle.ask_core.specs.Runs.{IsTaken, Stops, distinct, most_keys, question_uses, use_key, use_keys}
 use Rattle.ask_core.specs.RunStates.{left_after}
 use Rattle.ask_core.specs.Timely.{IsDoneAfter, at_first, one_more, HasLeft}
 use Rattle.ask_core.proofs.CellLists.{front_taken}

@@ -1,24 +1,22 @@
 -- What the step of each event evaluates.
-use Rattle.std.proofs.Common.{◌≡◌, ◌≢◌, ◌⊎◌, inl, inr, ℕ, zero, suc, ◌+◌, ◌-◌, ◌%◌, ◌<◌, ◌≤◌, ◌==◌, Bool, true, false, List, [], ◌∷◌, ◌++◌, length, take, drop, map, get_or, set, Contains, Option, Some, None, refl, sym, ap, ◌∙◌, subst, arith}
+use Rattle.std.proofs.Common.{◌≡◌, ◌≢◌, ◌⊎◌, inl, inr, ℕ, zero, suc, ◌+◌, ◌-◌, ◌%◌, ◌<◌, ◌≤◌, ◌==◌, Bool, true, false, List, [], ◌∷◌, length, drop, map, get_or, set, Contains, Option, Some, None, refl, sym, ap, ◌∙◌, subst, arith}
 use Rattle.std.specs.List.{AllByRecursion}
 use Rattle.std.proofs.lemmas.List.{get_or-set_same, get_or-set_other, set-get_or, length-map}
 use Rattle.solid_base.specs.declared.replies.Reply.{Reply}
-use Rattle.solid_base.specs.Ledgers.{counted}
 use Rattle.solid_eval.specs.Solids.{solid_of}
 use Rattle.solid_eval.specs.Uses.{Use, leaf_count}
 use Rattle.solid_questions.specs.declared.questions.Question.{Question}
 use Rattle.solid_questions.specs.Questions.{entity_of}
 use Rattle.memo_graph.specs.declared.key.Key.{Key}
-use Rattle.memo_graph.specs.Memos.{Entry, EachOnce, IsMemo, filled, verdict_of}
+use Rattle.memo_graph.specs.Memos.{Entry, EachOnce, IsMemo, filled}
 use Rattle.memo_graph.proofs.Keeping.{memo-filled}
-use Rattle.edit_core.specs.Batches.{Staged}
-use Rattle.edit_core.specs.Versions.{Version, IsVersionOf}
+use Rattle.edit_core.specs.Versions.{Version}
 use Rattle.edit_core.proofs.Batches.{test_not}
-use Rattle.ask_core.specs.Books.{BookFacts, IsBook, key_verdict, memo_capacity}
-use Rattle.ask_core.specs.Frugal.{AreNew, IsNewAt, IsQuietRun, IsQuiet, fresh_at, all_fresh, entries_of, IsCalmOn, IsTimelyOn, StayQuiet, IsFrugalStep}
+use Rattle.ask_core.specs.Books.{IsBook, key_verdict, memo_capacity}
+use Rattle.ask_core.specs.Frugal.{AreNew, IsNewAt, IsQuietRun, IsQuiet, fresh_at, all_fresh, IsTimelyOn, StayQuiet, IsFrugalStep}
 use Rattle.ask_core.specs.Places as places
 use Rattle.ask_core.specs.Places.{IsLooked, looked_for, IsWorkedOn, works, IsFilled, IsNewestReply}
-use Rattle.ask_core.specs.Runs.{RunFacts, IsRunning, IsTaken, begun, distinct, kept_all, left_of, looked, next_stage, not_held, question_uses, settled, use_key, use_keys, with_taken, worked}
+use Rattle.ask_core.specs.Runs.{RunFacts, IsRunning, IsTaken, begun, kept_all, left_of, looked, not_held, question_uses, settled, use_key, use_keys, with_taken, worked}
 use Rattle.ask_core.specs.RunStates.{left_after}
 use Rattle.ask_core.specs.Thrift.{HoldEntries, HoldUses}
 use Rattle.ask_core.specs.declared.events.Event.{Event}

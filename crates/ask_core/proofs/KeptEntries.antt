@@ -1,12 +1,12 @@
 -- What stands among the entries of a memo after looks and fills.
-use Rattle.std.proofs.Common.{◌≡◌, inl, inr, ℕ, zero, suc, ◌+◌, ◌<◌, List, [], ◌∷◌, ◌++◌, length, take, Contains, Some, get_or, refl, sym, ap, subst, ◌∙◌, arith}
-use Rattle.std.proofs.lemmas.List.{take_more}
+use Rattle.std.proofs.Common.{◌≡◌, inl, inr, ℕ, zero, suc, ◌+◌, ◌<◌, List, [], ◌∷◌, ◌++◌, length, take, Contains, Some, Result, Ok, Err, OnErr, refl, sym, ap, subst, ◌∙◌, arith, length-append}
 use Rattle.std.proofs.lemmas.List.Elements.{Contains-append_right}
 use Rattle.solid_base.specs.declared.classes.Verdict.{Verdict}
 use Rattle.memo_graph.specs.declared.key.Key.{Key}
 use Rattle.memo_graph.specs.Memos.{Entry, verdict_of, in_front, promoted, filled}
 use Rattle.memo_graph.proofs.Keeping.{none_new, one_new}
 use Rattle.ask_core.specs.Runs.{looked, kept_all}
+use Rattle.ask_core.proofs.CellLists.{front_taken}
 
 -- a verdict that is found is that of an entry
 pub found_entry : (key : Key) (entries : List Entry) (verdict : Verdict) → verdict_of key entries ≡ Some verdict → Contains entries (key, verdict)
@@ -39,12 +39,19 @@ taken_among (suc k) (first ∷ more) entry (suc i, inside, is) = Contains-append
 
 -- ---- one entry more
 
-kept_more : (most : ℕ) (more : List Entry) (entry : Entry) (entries : List Entry) → kept_all most (more ++ entry ∷ []) entries ≡ filled most entry.0 entry.1 (kept_all most more entries)
+pub kept_more : (most : ℕ) (more : List Entry) (entry : Entry) (entries : List Entry) → kept_all most (more ++ entry ∷ []) entries ≡ filled most entry.0 entry.1 (kept_all most more entries)
 kept_more most [] entry entries = refl
 kept_more most (first ∷ more) entry entries = kept_more most more entry (filled most first.0 first.1 entries)
 
-pub kept_next : {most size i : ℕ} (more entries : List Entry) {held after : List Entry} (d : Entry) → held ≡ kept_all most (take i more) entries → size ≡ most → after ≡ filled size (get_or more i d).0 (get_or more i d).1 held
-    → i < length more → after ≡ kept_all most (take (i + 1) more) entries
-kept_next {most} {size} {i} more entries {held} {after} d so_far capacity is inside =
-    is ∙ (λ j. filled (capacity j) (get_or more i d).0 (get_or more i d).1 (so_far j))
-    ∙ sym (ap (λ xs. kept_all most xs entries) (take_more more i d inside) ∙ kept_more most (take i more) (get_or more i d) entries)
+-- ---- the fresh entries of a round
+
+pub on_err : {A E P : Type 0} (result : Result A E) → P → OnErr result P
+on_err (Ok a) p = tt
+on_err (Err e) p = p
+
+-- the entries are those after the first of some
+pub kept_front : (most : ℕ) (all front rest entries after : List Entry) (entry : Entry) → all ≡ front ++ entry ∷ rest → after ≡ kept_all most front entries
+    → (k : ℕ) × (k < length all) × (after ≡ kept_all most (take k all) entries)
+kept_front most all front rest entries after entry is kept =
+    let long : length all ≡ length front + suc (length rest) = ap (λ (l : List Entry). length l) is ∙ length-append front (entry ∷ rest) in
+    (length front, omega (arith, long), kept ∙ ap (λ l. kept_all most l entries) (front_taken all front (entry ∷ rest) is))

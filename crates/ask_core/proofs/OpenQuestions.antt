@@ -1,7 +1,6 @@
 -- What holds of a question about cells that isn't refused.
-use Rattle.std.proofs.Common.{◌≡◌, ◌⊎◌, inl, inr, ℕ, zero, suc, ◌*◌, ◌^◌, ◌<◌, ◌≤◌, Bool, true, false, cond, nat_le, List, [], ◌∷◌, MatchOption, Option, Some, None, IsSome, IsTrue, refl, sym, ap, subst, ◌∙◌, arith}
+use Rattle.std.proofs.Common.{◌≡◌, inl, inr, ℕ, zero, suc, ◌*◌, ◌^◌, ◌<◌, ◌≤◌, Bool, true, false, cond, nat_le, List, ◌∷◌, Option, Some, None, IsSome, IsTrue, refl, sym, subst, arith}
 use Rattle.solid_base.specs.declared.entities.Entity.{Entity}
-use Rattle.solid_base.specs.declared.geometry.Cube.{Cube}
 use Rattle.solid_base.specs.declared.solids.Row.{Row}
 use Rattle.solid_base.specs.declared.solids.Row.TheVariants as row
 use Rattle.solid_base.specs.Graph.{weight_of}
@@ -14,9 +13,9 @@ use Rattle.solid_questions.specs.declared.questions.Question.{Question}
 use Rattle.solid_questions.specs.declared.questions.Question.TheVariants as question
 use Rattle.solid_questions.specs.declared.refusals.Refusal.{Refusal}
 use Rattle.solid_questions.specs.declared.refusals.Refusal.TheVariants as refusal
-use Rattle.solid_questions.specs.Questions.{IsLawful, IsLawfulSection, IsOfRows, entity_of}
+use Rattle.solid_questions.specs.Questions.{IsLawful, IsOfRows, entity_of}
 use Rattle.solid_questions.specs.QuestionCells.{cell_count, cells_of_grid, cells_of_section}
-use Rattle.solid_questions.specs.Refusals.{refusal_of, cells_refusal, first_refusal, no_entity, not_solid, unsupported, too_large, most_evaluations}
+use Rattle.solid_questions.specs.Refusals.{refusal_of, cells_refusal, first_refusal, no_entity, not_solid, unsupported, most_evaluations}
 use Rattle.ask_core.specs.Answers.{refusal_on}
 use Rattle.ask_core.specs.Books.{AsksCells, IsAtOnce, IsNotRefused}
 use Rattle.ask_core.proofs.Refused.{Few, unrefused_few}

@@ -1,14 +1,11 @@
 -- Items at places of lists, and lists that are read to their ends.
-use Rattle.std.proofs.Common.{◌≡◌, ℕ, zero, suc, ◌+◌, ◌<◌, ◌≤◌, List, [], ◌∷◌, ◌++◌, length, take, drop, map, slice_get, slice_index_or, Contains, MatchOption, cond, is_none, Option, None, Some, refl, sym, ap, ◌∙◌, subst, arith, append_assoc, append-nil}
+use Rattle.std.proofs.Common.{◌≡◌, ℕ, zero, suc, ◌<◌, List, [], ◌∷◌, ◌++◌, length, map, slice_get, slice_index_or, Contains, cond, is_none, Option, None, Some, refl, ap, arith}
 use Rattle.std.specs.List.{AllByRecursion}
-use Rattle.solid_base.specs.Ledgers.{counted}
 use Rattle.solid_base.specs.declared.classes.Verdict.{Verdict}
-use Rattle.solid_base.specs.declared.entities.Entity.{Entity}
 use Rattle.memo_graph.specs.declared.key.Key.{Key}
 use Rattle.memo_graph.specs.Memos.{Entry, verdict_of}
-use Rattle.ask_core.specs.Books.{key_verdict}
 use Rattle.ask_core.specs.Runs.{not_held}
-use Rattle.ask_core.specs.Rounds.{picked, unfound, AreRight}
+use Rattle.ask_core.specs.Rounds.{picked, unfound}
 use Rattle.ask_core.proofs.CellLists.{place_within}
 
 -- an item that stands at a place

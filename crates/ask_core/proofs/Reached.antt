@@ -1,24 +1,22 @@
 -- Where the sessions are after the events so far, by those that are left.
-use Rattle.std.proofs.Common.{◌≡◌, ◌≢◌, ℕ, zero, suc, ◌+◌, ◌-◌, ◌≤◌, List, [], ◌∷◌, length, get_or, replicate, Option, Some, None, IfSome, refl, sym, ap, subst, ◌∙◌, arith}
+use Rattle.std.proofs.Common.{◌≡◌, ℕ, zero, suc, ◌+◌, ◌-◌, ◌≤◌, List, [], ◌∷◌, length, get_or, replicate, Option, Some, None, IfSome, refl, sym, ap, subst, ◌∙◌, arith}
 use Rattle.std.specs.List.{AllByRecursion}
 use Rattle.std.proofs.lemmas.List.{length-replicate}
 use Rattle.solid_base.specs.declared.entities.Model.{Model}
 use Rattle.solid_base.specs.declared.replies.Reply.{Reply}
 use Rattle.solid_questions.specs.declared.questions.Question.{Question}
 use Rattle.memo_graph.specs.declared.key.Key.{Key}
-use Rattle.memo_graph.specs.Memos.{Entry, EachOnce}
-use Rattle.edit_core.specs.Versions.{LogEntry, Version, IsVersionOf}
+use Rattle.memo_graph.specs.Memos.{Entry}
+use Rattle.edit_core.specs.Versions.{LogEntry, IsVersionOf}
 use Rattle.ask_core.specs.Books.{BookFacts, memo_capacity}
-use Rattle.ask_core.specs.Frugal.{IsQuiet, IsCalmOn, IsTimelyOn, IsFrugalStep, all_fresh, entries_of}
+use Rattle.ask_core.specs.Frugal.{IsQuiet, IsCalmOn, IsTimelyOn, IsFrugalStep, entries_of}
 use Rattle.ask_core.specs.Machine.{SessionRun, MachineState, AreSteps, machine_start, run_of, session_places}
 use Rattle.ask_core.specs.Places.{HasPlaces, AreRounds, IsLawfulEvent, IsPlace, IsRunOf, IsStateOf, MakesStep}
 use Rattle.ask_core.specs.Runs.{RunFacts, GoesOnWith, IsRunning, left_of, question_uses}
-use Rattle.ask_core.specs.Thrift.{HoldEntries, HoldUses}
 use Rattle.ask_core.specs.Timely.{IsDoneAfter, HasLeft, IsTimely, IsCalm, EachStep, IsThriftyMachine}
 use Rattle.ask_core.specs.declared.events.Event.{Event}
 use Rattle.ask_core.specs.declared.events.Event.TheVariants as event
 use Rattle.ask_core.specs.declared.machine.Sessions.{Sessions}
-use Rattle.ask_core.specs.declared.runs.Stage.{Stage}
 use Rattle.ask_core.specs.declared.runs.Stage.TheVariants as stage
 use Rattle.ask_core.proofs.FrugalSteps.{quiet_room}
 use Rattle.ask_core.proofs.StateSteps.{no_run_there, run_back}

@@ -1,17 +1,17 @@
 -- One key after the other is evaluated, and one use after the other has its verdict.
-use Rattle.std.proofs.Common.{◌≡◌, ℕ, zero, suc, ◌+◌, ◌<◌, ◌≤◌, List, [], ◌∷◌, ◌++◌, length, take, drop, get_or, map, slice_get, MatchOption, Option, None, Some, refl, sym, ap, ◌∙◌, subst, arith, append_assoc, append-nil, length-append}
+use Rattle.std.proofs.Common.{◌≡◌, ℕ, zero, suc, ◌+◌, ◌<◌, List, [], ◌∷◌, ◌++◌, length, drop, get_or, map, is_some, true, false, MatchOption, Option, None, Some, refl, sym, ap, ◌∙◌, subst, arith, append_assoc, length-append}
 use Rattle.std.specs.List.{AllByRecursion}
-use Rattle.std.proofs.lemmas.List.{map-append, length-map}
+use Rattle.std.proofs.lemmas.List.{map-append}
 use Rattle.std.proofs.lemmas.Option.{slice_get-get_or}
 use Rattle.solid_base.specs.Ledgers.{counted}
 use Rattle.solid_base.proofs.Counts.{counted_twice}
+use Rattle.solid_base.specs.declared.classes.Class.TheVariants as class
 use Rattle.solid_base.specs.declared.classes.Verdict.{Verdict}
 use Rattle.solid_base.specs.declared.entities.Entity.{Entity}
 use Rattle.fixed_enclosure.specs.declared.enclosures.Enc.TheVariants as enc
 use Rattle.memo_graph.specs.declared.key.Key.{Key}
-use Rattle.memo_graph.specs.Memos.{Entry}
 use Rattle.ask_core.specs.Books.{key_verdict}
-use Rattle.ask_core.specs.Rounds.{picked, unfound, AreRight, IsPrimitiveKey}
+use Rattle.ask_core.specs.Rounds.{picked, fresh_entries, unfound, wanted_keys, AreRight}
 
 pub one_found_each : (rows : List Entity) (keys : List Key) (found : List (Option Verdict)) → AreRight rows keys found → length found ≡ length keys
 one_found_each rows [] found h = ap (λ (l : List (Option Verdict)). length l) h
@@ -21,6 +21,10 @@ one_found_each rows (k ∷ keys) (o ∷ found) h = ap suc (one_found_each rows k
 -- a key that stands nowhere
 abbrev pub no_key : Key
 no_key = record { de = 0; stamp = 0; at = record { x = enc.All; y = enc.All; z = enc.All } }
+
+-- a verdict on nothing
+abbrev pub no_verdict : Verdict
+no_verdict = record { class = class.Outside; leaf = 0 }
 
 -- what is left from a place on
 pub cut_at : {X : Type 0} (xs : List X) (n : ℕ) (d : X) → n < length xs → drop n xs ≡ get_or xs n d ∷ drop (n + 1) xs
@@ -55,15 +59,6 @@ unfound_here keys found n k o a b =
     ap (λ l. unfound l (drop n found)) (cut_at keys n k a) ∙ ap (λ l. unfound (get_or keys n k ∷ drop (n + 1) keys) l) (cut_at found n o b)
     ∙ first_unfound (get_or keys n k) (get_or found n o) (drop (n + 1) keys) (drop (n + 1) found)
 
-pub fresh_here : (f : Key → Entry) (keys : List Key) (found : List (Option Verdict)) (n : ℕ) (k : Key) (o : Option Verdict) (old new whole : List Entry) → n < length keys → n < length found
-    → new ≡ old ++ map f (unfound (get_or keys n k ∷ []) (get_or found n o ∷ [])) → old ++ map f (unfound (drop n keys) (drop n found)) ≡ whole
-    → new ++ map f (unfound (drop (n + 1) keys) (drop (n + 1) found)) ≡ whole
-fresh_here f keys found n k o old new whole a b put is =
-    let own = unfound (get_or keys n k ∷ []) (get_or found n o ∷ []) in
-    let rest = unfound (drop (n + 1) keys) (drop (n + 1) found) in
-    ap (λ l. l ++ map f rest) put ∙ append_assoc old (map f own) (map f rest) ∙ ap (λ l. old ++ l) (sym (map-append f own rest))
-    ∙ ap (λ l. old ++ map f l) (sym (unfound_here keys found n k o a b)) ∙ is
-
 pub counted_here : (keys : List Key) (found : List (Option Verdict)) (n : ℕ) (k : Key) (o : Option Verdict) (old new whole : ℕ) → n < length keys → n < length found
     → new ≡ counted old (length (unfound (get_or keys n k ∷ []) (get_or found n o ∷ []))) → counted old (length (unfound (drop n keys) (drop n found))) ≡ whole
     → counted new (length (unfound (drop (n + 1) keys) (drop (n + 1) found))) ≡ whole
@@ -91,14 +86,36 @@ left_length xs n d a = (let is : length (drop n xs) ≡ suc (length (drop (n + 1
 pub put_length : {X : Type 0} (old new : List X) (x : X) → new ≡ old ++ x ∷ [] → length new ≡ length old + 1
 put_length old new x put = ap (λ (l : List _). length l) put ∙ length-append old (x ∷ [])
 
-at_most_one : (k : Key) (o : Option Verdict) → length (unfound (k ∷ []) (o ∷ [])) ≤ 1
-at_most_one k None = omega arith
-at_most_one k (Some v) = omega arith
+-- ---- fresh entries
 
-pub fresh_length : (f : Key → Entry) (k : Key) (o : Option Verdict) (old new : List Entry) → new ≡ old ++ map f (unfound (k ∷ []) (o ∷ [])) → length new ≤ length old + 1
-fresh_length f k o old new put =
-    let own = unfound (k ∷ []) (o ∷ []) in
-    let long : length new ≡ length old + length (map f own) = ap (λ (l : List Entry). length l) put ∙ length-append old (map f own) in
-    let same : length (map f own) ≡ length own = length-map own f in
-    let few = at_most_one k o in
-    omega (arith, long, same, few)
+-- where each key has its verdict none is wanted, and the fresh entries are those of the keys that weren't found
+pub none_wanted : (f : Key → Verdict) (keys : List Key) (found : List (Option Verdict)) → wanted_keys (map f keys) keys found ≡ []
+none_wanted f [] found = refl
+none_wanted f (k ∷ keys) found = refl
+
+pub fresh_made : (f : Key → Verdict) (keys : List Key) (found : List (Option Verdict)) → fresh_entries (map f keys) keys found ≡ map (λ key. (key, f key)) (unfound keys found)
+fresh_made f [] found = refl
+fresh_made f (k ∷ keys) [] = refl
+fresh_made f (k ∷ keys) (None ∷ found) = ap (λ l. (k, f k) ∷ l) (fresh_made f keys found)
+fresh_made f (k ∷ keys) (Some v ∷ found) = fresh_made f keys found
+
+first_fresh : (v : Verdict) (k : Key) (o : Option Verdict) (values : List Verdict) (keys : List Key) (found : List (Option Verdict))
+    → fresh_entries (v ∷ values) (k ∷ keys) (o ∷ found) ≡ fresh_entries (v ∷ []) (k ∷ []) (o ∷ []) ++ fresh_entries values keys found
+first_fresh v k None values keys found = refl
+first_fresh v k (Some w) values keys found = refl
+
+pub fresh_from : (values : List Verdict) (keys : List Key) (found : List (Option Verdict)) (n : ℕ) (v : Verdict) (k : Key) (o : Option Verdict)
+    → n < length values → n < length keys → n < length found
+    → fresh_entries (drop n values) (drop n keys) (drop n found)
+    ≡ fresh_entries (get_or values n v ∷ []) (get_or keys n k ∷ []) (get_or found n o ∷ []) ++ fresh_entries (drop (n + 1) values) (drop (n + 1) keys) (drop (n + 1) found)
+fresh_from values keys found n v k o a b c =
+    (λ i. fresh_entries (cut_at values n v a i) (cut_at keys n k b i) (cut_at found n o c i))
+    ∙ first_fresh (get_or values n v) (get_or keys n k) (get_or found n o) (drop (n + 1) values) (drop (n + 1) keys) (drop (n + 1) found)
+
+pub one_fresh : (v : Verdict) (k : Key) (o : Option Verdict) → is_some o ≡ false → fresh_entries (v ∷ []) (k ∷ []) (o ∷ []) ≡ (k, v) ∷ []
+one_fresh v k None is = refl
+one_fresh v k (Some w) is = absurd (grind (arith, is))
+
+pub not_fresh : (v : Verdict) (k : Key) (o : Option Verdict) → is_some o ≡ true → fresh_entries (v ∷ []) (k ∷ []) (o ∷ []) ≡ []
+not_fresh v k None is = absurd (grind (arith, is))
+not_fresh v k (Some w) is = refl

@@ -1,7 +1,7 @@
 -- Rounds end a run, and what they evaluate is held after a fill.
-use Rattle.std.proofs.Common.{◌≡◌, ◌≢◌, ℕ, zero, suc, ◌+◌, ◌-◌, ◌*◌, ◌<◌, ◌≤◌, Bool, true, false, cond, List, [], ◌∷◌, length, flat_map, map, take, drop, min, Contains, Option, None, Some, is_none, refl, sym, ap, ◌∙◌, subst, arith, length-append, mul-le-mul}
+use Rattle.std.proofs.Common.{◌≡◌, ℕ, zero, suc, ◌+◌, ◌-◌, ◌*◌, ◌<◌, ◌≤◌, Bool, true, false, cond, List, [], ◌∷◌, length, flat_map, map, take, drop, min, Contains, Some, is_none, refl, sym, ap, ◌∙◌, subst, arith, length-append, mul-le-mul}
 use Rattle.std.proofs.Math.Nat.{min-le_right}
-use Rattle.std.proofs.lemmas.List.{length-take, length-drop, length-map}
+use Rattle.std.proofs.lemmas.List.{length-take, length-drop}
 use Rattle.solid_base.specs.declared.classes.Verdict.{Verdict}
 use Rattle.solid_base.specs.declared.entities.Entity.{Entity}
 use Rattle.solid_base.specs.declared.geometry.Cube.{Cube}
@@ -19,7 +19,7 @@ use Rattle.memo_graph.specs.declared.key.Key.{Key}
 use Rattle.memo_graph.specs.Memos.{Entry, same_key, verdict_of, without, filled}
 use Rattle.memo_graph.proofs.Keys.{same_key_exact, same_key_self}
 use Rattle.ask_core.specs.Books.{key_verdict, memo_capacity}
-use Rattle.ask_core.specs.Runs.{RunFacts, IsRunning, IsReady, IsAtStage, IsTaken, cell_uses, kept_all, left_in_cell, left_of, most_keys, not_held, question_uses, run_uses, settled, use_keys, with_taken, worked}
+use Rattle.ask_core.specs.Runs.{RunFacts, IsRunning, IsReady, IsAtStage, IsTaken, cell_uses, kept_all, left_in_cell, left_of, not_held, run_uses, use_keys, with_taken, worked}
 use Rattle.ask_core.specs.Timely.{IsAfterRounds, no_round, one_round}
 use Rattle.ask_core.specs.declared.runs.Stage.TheVariants as stage
 use Rattle.ask_core.proofs.DoneRounds.{next_within, some_length}

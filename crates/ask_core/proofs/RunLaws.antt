@@ -1,35 +1,29 @@
 -- What holds of a run between its calls.
-use Rattle.std.proofs.Common.{◌≡◌, ◌≢◌, ◌⊎◌, inl, inr, ℕ, zero, suc, ◌+◌, ◌-◌, ◌*◌, ◌<◌, ◌≤◌, Bool, List, [], ◌∷◌, ◌++◌, length, take, drop, map, flat_map, slice_get, Option, None, Some, MatchOption, Contains, refl, sym, ap, ◌∙◌, subst, arith, mul-le-mul, append_assoc, length-append, cond, not, true, false}
+use Rattle.std.proofs.Common.{◌≡◌, ◌≢◌, ◌⊎◌, inl, inr, ℕ, zero, suc, ◌+◌, ◌-◌, ◌*◌, ◌<◌, ◌≤◌, Bool, List, [], ◌∷◌, ◌++◌, length, take, drop, map, slice_get, Option, None, Some, Contains, refl, sym, ap, ◌∙◌, subst, arith, mul-le-mul, append_assoc, cond, not, true, false}
 use Rattle.std.specs.List.{AllByRecursion, filter}
-use Rattle.std.proofs.Math.ListN.{drop_of_length-le}
-use Rattle.std.proofs.Math.Seq.{drop-append_seam, take-append_seam}
 use Rattle.std.proofs.lemmas.Bool.{cases_lt}
-use Rattle.std.proofs.lemmas.List.{length-drop, drop-drop, take-append-drop, map-append, length-map}
-use Rattle.std.proofs.lemmas.List.Elements.{Contains-append_left}
+use Rattle.std.proofs.lemmas.List.{length-drop, take-append-drop}
 use Rattle.solid_base.specs.declared.classes.Verdict.{Verdict}
 use Rattle.solid_base.specs.declared.entities.Entity.{Entity}
 use Rattle.solid_base.specs.declared.geometry.Cube.{Cube}
 use Rattle.solid_base.specs.References.{row_at}
 use Rattle.fixed_enclosure.specs.Places.{spans_of}
 use Rattle.fixed_enclosure.specs.Spans.{box_of}
-use Rattle.solid_eval.specs.Solids.{solid_of, IsPrimitiveRow}
-use Rattle.solid_eval.specs.Uses.{Use, uses, leaf_count, use_verdict}
+use Rattle.solid_eval.specs.Solids.{IsPrimitiveRow}
+use Rattle.solid_eval.specs.Uses.{Use}
 use Rattle.solid_eval.proofs.FromUses.{of_primitives}
 use Rattle.solid_questions.specs.declared.questions.Question.{Question}
 use Rattle.solid_questions.specs.Questions.{entity_of}
-use Rattle.solid_questions.specs.QuestionCells.{all_cells, cell, cell_count}
+use Rattle.solid_questions.specs.QuestionCells.{all_cells}
 use Rattle.memo_graph.specs.declared.key.Key.{Key}
-use Rattle.memo_graph.specs.Memos.{Entry, verdict_of, same_key}
-use Rattle.edit_core.specs.Versions.{Version}
-use Rattle.ask_core.specs.Books.{key_verdict}
-use Rattle.ask_core.specs.Runs.{cell_uses, question_uses, use_key, use_keys, distinct}
-use Rattle.ask_core.specs.Rounds.{uses_of_cell, uses_at, uses_ahead, IsAhead, IsCourse, IsAheadBy, IsGoing, done_of, AreRight, unfound}
+use Rattle.memo_graph.specs.Memos.{same_key}
+use Rattle.ask_core.specs.Runs.{question_uses, distinct}
+use Rattle.ask_core.specs.Rounds.{uses_of_cell, uses_at, uses_ahead, IsCourse, IsAheadBy, IsGoing, done_of, unfound}
 use Rattle.ask_core.specs.RunStates.{left_after}
 use Rattle.ask_core.specs.declared.course.Course.{Course}
 use Rattle.ask_core.proofs.CellLists.{front_taken, take_none}
 use Rattle.ask_core.proofs.Courses.{sized_here, uses_past, all_counted, left_here}
 use Rattle.ask_core.proofs.Picked.{contained_at}
-use Rattle.ask_core.proofs.UseKeys.{verdict_is}
 
 -- ---- lists
 

@@ -1,7 +1,7 @@
 -- A run begins, looks and works.
-use Rattle.std.proofs.Common.{◌≡◌, ◌≢◌, ◌⊎◌, inl, inr, ℕ, zero, suc, ◌+◌, ◌-◌, ◌*◌, ◌<◌, ◌≤◌, Bool, List, [], ◌∷◌, ◌++◌, length, take, drop, map, Option, None, Some, MatchOption, Contains, refl, sym, ap, ◌∙◌, subst, arith, append_assoc, length-append, mul-le-mul}
+use Rattle.std.proofs.Common.{◌≡◌, ◌≢◌, ◌⊎◌, inl, inr, ℕ, zero, suc, ◌+◌, ◌-◌, ◌*◌, ◌<◌, ◌≤◌, Bool, List, [], ◌∷◌, ◌++◌, length, take, drop, map, Option, None, Some, MatchOption, Contains, refl, sym, ap, ◌∙◌, subst, arith, length-append, mul-le-mul}
 use Rattle.std.specs.List.{AllByRecursion}
-use Rattle.std.proofs.Math.Seq.{drop-append_seam, take-append_seam}
+use Rattle.std.proofs.Math.Seq.{drop-append_seam}
 use Rattle.std.proofs.Math.Seq.{take-length}
 use Rattle.std.proofs.lemmas.Bool.{cases_lt}
 use Rattle.std.proofs.lemmas.List.{length-drop, drop-drop, map-append, length-map}
@@ -9,7 +9,6 @@ use Rattle.solid_base.specs.declared.classes.Verdict.{Verdict}
 use Rattle.solid_base.specs.declared.entities.Entity.{Entity}
 use Rattle.solid_base.specs.Stack.{Stack}
 use Rattle.iges_parameters.specs.Accepted.{IsAccepted}
-use Rattle.solid_eval.specs.Solids.{solid_of}
 use Rattle.solid_eval.specs.Uses.{Use, use_verdict}
 use Rattle.solid_questions.specs.declared.questions.Question.{Question}
 use Rattle.solid_questions.specs.Questions.{IsLawful, entity_of}
@@ -25,8 +24,8 @@ use Rattle.solid_base.specs.declared.entities.Model.{Model}
 use Rattle.solid_base.specs.References.{row_at}
 use Rattle.ask_core.specs.Answers.{cell_verdict, cell_verdicts, IsAnswer, IsAnswerOn, IsAnswerUnless}
 use Rattle.ask_core.specs.Books.{BookFacts, key_verdict, AsksCells, IsNotRefused}
-use Rattle.ask_core.specs.Runs.{RunFacts, IsRunning, IsReady, IsTaken, IsOwnKey, IsOwn, IsWorked, IsBetween, IsAtStage, with_taken, worked, settled, next_stage, most_uses, most_keys, begun, run_uses, left_of, left_in_cell, question_uses, use_key, use_keys, distinct, not_held}
-use Rattle.ask_core.specs.Rounds.{uses_at, uses_ahead, IsAhead, IsCourse, IsAheadBy, IsGoing, done_of, AreRight, unfound, picked, IsRoundOf, IsTaking, IsEmpty, HasRoom}
+use Rattle.ask_core.specs.Runs.{RunFacts, IsRunning, IsTaken, IsOwnKey, IsOwn, IsBetween, IsAtStage, with_taken, worked, settled, next_stage, left_of, left_in_cell, question_uses, use_key, use_keys, not_held}
+use Rattle.ask_core.specs.Rounds.{uses_at, uses_ahead, IsAhead, IsCourse, IsAheadBy, IsGoing, done_of, AreRight, fresh_entries, unfound, wanted_keys, picked, IsRoundOf, IsTaking, IsEmpty, HasRoom}
 use Rattle.ask_core.specs.RunStates.{left_after, facts_of, IsRun, IsRoundAt, AsksOneCell}
 use Rattle.ask_core.specs.declared.course.Course.{Course}
 use Rattle.ask_core.specs.declared.rounds.Round.{Round}
@@ -36,8 +35,9 @@ use Rattle.ask_core.proofs.CellLists.{front_taken}
 use Rattle.ask_core.proofs.Courses.{course_ahead}
 use Rattle.ask_core.proofs.OpenQuestions.{some_cells}
 use Rattle.ask_core.proofs.Picked.{picked_length, picked_inside, picked_mapped, same_by_some, unfound_held, unfound_there}
+use Rattle.ask_core.proofs.RoundSteps.{one_found_each, none_wanted, fresh_made}
 use Rattle.ask_core.proofs.UseKeys.{verdict_is}
-use Rattle.ask_core.proofs.RunLaws.{all_at, all_weaker, all_dropped, all_front, all_made, all_distinct, all_own, taken_front, idle_ahead, all_length, done_within, inside_where, some_ahead, inside_of, uses_most, left_cell, taken_twice, all_unfound}
+use Rattle.ask_core.proofs.RunLaws.{all_at, all_weaker, all_dropped, all_front, all_made, all_distinct, all_own, taken_front, idle_ahead, all_length, done_within, some_ahead, inside_of, uses_most, left_cell, taken_twice, all_unfound}
 
 -- ---- what is found is right
 
@@ -62,7 +62,7 @@ module _ (book : BookFacts) (table : Version) (q : Question) (live : Bool) (cour
   old = facts_of book table q live course round stage.Idle
 
   no_places : length round.places.list ≡ 0
-  no_places = ap (λ (l : List ℕ). length l) is.round_is.0.places
+  no_places = ap (λ (l : List ℕ). length l) is.round_is.places
 
   by : IsAheadBy table.model.rows q course 0
   by = subst (IsAheadBy table.model.rows q course) no_places is.ahead
@@ -119,8 +119,14 @@ module _ (book : BookFacts) (table : Version) (q : Question) (live : Bool) (cour
         within = subst (λ c. length after.known.list + length looked.places.list ≤ length (uses_at table.model.rows q c)) (sym cells) (omega (arith, sum, left, parts, within));
       }
 
-  pub running : looked.fresh.list ≡ [] → IsRunning (facts_of book table q live after looked stage.Ready)
-  running no_fresh =
+  still_wanted : looked.values.list ≡ [] → wanted_keys looked.values.list looked.keys.list looked.found.list ≡ unfound looked.keys.list looked.found.list
+  still_wanted none = ap (λ vs. wanted_keys vs looked.keys.list looked.found.list) none
+
+  none_fresh : looked.values.list ≡ [] → fresh_entries looked.values.list looked.keys.list looked.found.list ≡ []
+  none_fresh none = ap (λ vs. fresh_entries vs looked.keys.list looked.found.list) none
+
+  pub running : looked.values.list ≡ [] → IsRunning (facts_of book table q live after looked stage.Ready)
+  running no_values =
       let seen = facts_of book table q live after looked stage.Ready in
       let same_uses = same_done in
       record {
@@ -133,35 +139,36 @@ module _ (book : BookFacts) (table : Version) (q : Question) (live : Bool) (cour
         at_stage = record {
           some = λ none. whole.some (sym taken_is ∙ none);
           next = taken_front (length looked.places.list) _ (drop (done_of after) (question_uses table.model.rows q));
-          wanted = λ key there. subst (λ l. Contains l key) (has.of.keys ∙ ap (use_keys table) (sym taken_is)) (unfound_there looked.keys.list looked.found.list key there);
-          no_fresh = no_fresh;
+          wanted = λ key there. subst (λ l. Contains l key) (has.of.keys ∙ ap (use_keys table) (sym taken_is))
+              (unfound_there looked.keys.list looked.found.list key (subst (λ l. Contains l key) (still_wanted no_values) there));
+          no_fresh = none_fresh no_values;
         };
       }
 
   pub is_ready : ((key : Key) (v : Verdict) → IsOwnKey old key → verdict_of key entries ≡ Some v → v ≡ key_verdict table.model.rows key)
       → after.count ≡ course.count → after.size ≡ course.size → after.cells ≡ course.cells → after.known ≡ course.known → after.room ≡ course.room → IsAhead table.model.rows after.ahead
-      → looked.values ≡ round.values → looked.fresh ≡ round.fresh → HasRoom looked
+      → looked.values ≡ round.values → HasRoom looked
       → IsRun (facts_of book table q live after looked stage.Ready) after looked
-  is_ready right count size cells known room ahead values fresh has_room =
-      let no_values : looked.values.list ≡ [] = ap (λ (s : Stack Verdict). s.list) values ∙ is.round_is.0.values in
-      let no_fresh : looked.fresh.list ≡ [] = ap (λ (s : Stack (Key × Verdict)). s.list) fresh ∙ is.round_is.1 in
+  is_ready right count size cells known room ahead values has_room =
+      let no_values : looked.values.list ≡ [] = ap (λ (s : Stack Verdict). s.list) values ∙ is.round_is.values in
       record {
-        running = running no_fresh;
+        running = running no_values;
         course_is = course_ahead table.model.rows q course after is.course_is count size cells known room ahead;
         ahead = ahead_by (ap (λ (s : Stack Verdict). length s.list) cells) (ap (λ (s : Stack Verdict). length s.list) known);
         going = λ inside. (
             let g = is.going (let same = ap (λ (s : Stack Verdict). length s.list) cells in omega (arith, inside, same, count)) in
             let same = ap (λ (s : Stack Verdict). length s.list) known in omega (arith, g, same, size));
         room = has_room;
-        round_is = (subst (λ t. IsRoundOf table t looked) (sym taken_is) has.of, are_right right, no_values, no_fresh);
+        round_is = (subst (λ t. IsRoundOf table t looked) (sym taken_is) has.of, are_right right, no_values);
       }
 
-  pub looked_facts : looked.fresh ≡ round.fresh
+  pub looked_facts : looked.values ≡ round.values
       → facts_of book table q live after looked stage.Ready ≡ with_taken old (take (length looked.places.list) (left_after table.model.rows q (done_of after))) entries
-  looked_facts fresh =
-      let no_fresh : looked.fresh.list ≡ [] = ap (λ (s : Stack (Key × Verdict)). s.list) fresh ∙ is.round_is.1 in
-      let wanted : unfound looked.keys.list looked.found.list ≡ not_held (use_keys table (take (length looked.places.list) (left_after table.model.rows q (done_of after)))) entries =
-      wanted_is ∙ ap (λ t. not_held (use_keys table t) entries) (sym taken_is) in
+  looked_facts values =
+      let no_values : looked.values.list ≡ [] = ap (λ (s : Stack Verdict). s.list) values ∙ is.round_is.values in
+      let no_fresh = none_fresh no_values in
+      let wanted : wanted_keys looked.values.list looked.keys.list looked.found.list ≡ not_held (use_keys table (take (length looked.places.list) (left_after table.model.rows q (done_of after)))) entries =
+      still_wanted no_values ∙ wanted_is ∙ ap (λ t. not_held (use_keys table t) entries) (sym taken_is) in
       λ i. record {
         opening = book.opening;
         log = book.log;
@@ -178,7 +185,7 @@ module _ (book : BookFacts) (table : Version) (q : Question) (live : Bool) (cour
 pub some_left : (book : BookFacts) (table : Version) (q : Question) (live : Bool) (course : Course) (round : Round) → IsRun (facts_of book table q live course round stage.Idle) course round
     → uses_ahead table.model.rows course.ahead ≢ []
 some_left book table q live course round is =
-    let no_places : length round.places.list ≡ 0 = ap (λ (l : List ℕ). length l) is.round_is.0.places in
+    let no_places : length round.places.list ≡ 0 = ap (λ (l : List ℕ). length l) is.round_is.places in
     let left = is.running.at_stage.1 in
     let all = all_length table.model.rows q course is.course_is in
     some_ahead table.model.rows q course is.course_is is.going (subst (IsAheadBy table.model.rows q course) no_places is.ahead) (omega (arith, left, all))
@@ -190,19 +197,19 @@ positive_product zero b h k = absurd (omega (arith, h))
 positive_product (suc a) b h k = omega (arith, k)
 
 -- between rounds nothing is taken
-between : (book : BookFacts) (table : Version) (q : Question) (live : Bool) (course : Course) (round : Round) (s : Stage) → IsEmpty round → round.fresh.list ≡ []
+between : (book : BookFacts) (table : Version) (q : Question) (live : Bool) (course : Course) (round : Round) (s : Stage) → IsEmpty round
     → IsBetween (facts_of book table q live course round s)
-between book table q live course round s empty fresh = record {
+between book table q live course round s empty = record {
   no_taken = ap (λ (l : List ℕ). take (length l) (left_after table.model.rows q (done_of course))) empty.places;
-  no_wanted = ap (λ (l : List Key). unfound l round.found.list) empty.keys;
-  no_fresh = fresh;
+  no_wanted = ap (λ vs. wanted_keys vs round.keys.list round.found.list) empty.values ∙ ap (λ (l : List Key). unfound l round.found.list) empty.keys;
+  no_fresh = ap (λ vs. fresh_entries vs round.keys.list round.found.list) empty.values;
 }
 
 pub run_begins : (book : BookFacts) (table : Version) (q : Question) (live : Bool) (course : Course) (round : Round)
     → IsAccepted book.opening → IsVersionOf book.opening book.log table → IsLawful q → AsksCells q → IsNotRefused table.model.rows q
-    → IsCourse table.model.rows q course → IsAheadBy table.model.rows q course 0 → IsGoing course → done_of course ≡ 0 → IsEmpty round → round.fresh.list ≡ [] → HasRoom round
+    → IsCourse table.model.rows q course → IsAheadBy table.model.rows q course 0 → IsGoing course → done_of course ≡ 0 → IsEmpty round → HasRoom round
     → IsRun (facts_of book table q live course round stage.Idle) course round
-run_begins book table q live course round accepted version lawful cells unrefused is by going none empty fresh room =
+run_begins book table q live course round accepted version lawful cells unrefused is by going none empty room =
     let all = all_length table.model.rows q course is in
     let count = some_cells q course.count lawful cells is.count in
     let product = positive_product course.count course.size count is.some in
@@ -215,34 +222,25 @@ run_begins book table q live course round accepted version lawful cells unrefuse
         cells = cells;
         not_refused = unrefused;
         within = omega (arith, none);
-        at_stage = (between book table q live course round stage.Idle empty fresh, omega (arith, all, product, none));
+        at_stage = (between book table q live course round stage.Idle empty, omega (arith, all, product, none));
       };
       course_is = is;
       ahead = subst (IsAheadBy table.model.rows q course) (sym no_places) by;
       going = going;
       room = room;
-      round_is = (empty, fresh);
+      round_is = empty;
     }
 
 -- ---- a fill
 
 module _ (book : BookFacts) (table : Version) (q : Question) (live : Bool) (course : Course) (round after : Round)
-    (is : IsRun (facts_of book table q live course round stage.Worked) course round) (places : after.places ≡ round.places) (keys : after.keys ≡ round.keys) (found : after.found ≡ round.found) (values : after.values ≡ round.values)
-    (fresh : after.fresh.list ≡ []) (spare : after.fresh.spare ≡ round.fresh.spare + length round.fresh.list) where
+    (is : IsRun (facts_of book table q live course round stage.Worked) course round) (empty : IsEmpty after) (room : HasRoom after) where
   abbrev pub before_fill : RunFacts
   before_fill = facts_of book table q live course round stage.Worked
 
-  empty : IsEmpty after
-  empty = record {
-    places = ap (λ (l : Stack ℕ). l.list) places ∙ is.round_is.places;
-    keys = ap (λ (l : Stack Key). l.list) keys ∙ is.round_is.keys;
-    found = ap (λ (l : Stack (Option Verdict)). l.list) found ∙ is.round_is.found;
-    values = ap (λ (l : Stack Verdict). l.list) values ∙ is.round_is.values;
-  }
-
   same : (s : Stage) → s ≡ next_stage (left_of before_fill) → facts_of book table q live course after s ≡ settled before_fill
   same s at = (
-      let b = between book table q live course after s empty fresh in
+      let b = between book table q live course after s empty in
       λ i. record {
         opening = book.opening;
         log = book.log;
@@ -252,7 +250,7 @@ module _ (book : BookFacts) (table : Version) (q : Question) (live : Bool) (cour
         done = done_of course;
         taken = b.no_taken i;
         wanted = b.no_wanted i;
-        fresh = fresh i;
+        fresh = b.no_fresh i;
         stage = at i;
       })
 
@@ -268,21 +266,15 @@ module _ (book : BookFacts) (table : Version) (q : Question) (live : Bool) (cour
       at_stage = at_stage;
     };
     course_is = is.course_is;
-    ahead = subst (λ (l : Stack ℕ). IsAheadBy table.model.rows q course (length l.list)) (sym places) is.ahead;
+    ahead = subst (λ (l : List ℕ). IsAheadBy table.model.rows q course (length l)) (is.round_is.places ∙ sym empty.places) is.ahead;
     going = is.going;
-    room = record {
-      places = subst (λ (l : Stack ℕ). most_uses ≤ length l.list + l.spare) (sym places) is.room.places;
-      keys = subst (λ (l : Stack Key). most_keys ≤ length l.list + l.spare) (sym keys) is.room.keys;
-      found = subst (λ (l : Stack (Option Verdict)). most_keys ≤ length l.list + l.spare) (sym found) is.room.found;
-      values = subst (λ (l : Stack Verdict). most_keys ≤ length l.list + l.spare) (sym values) is.room.values;
-      fresh = (let h = is.room.fresh in omega (arith, h, spare));
-    };
+    room = room;
     round_is = round_is;
   }
 
   go : (n : ℕ) → left_of before_fill ≡ n → IsRun (facts_of book table q live course after (next_stage n)) course after
-  go zero none = with_stage stage.Done (between book table q live course after stage.Done empty fresh, none) (empty, fresh)
-  go (suc n) some = with_stage stage.Idle (between book table q live course after stage.Idle empty fresh, omega (arith, some)) (empty, fresh)
+  go zero none = with_stage stage.Done (between book table q live course after stage.Done empty, none) empty
+  go (suc n) some = with_stage stage.Idle (between book table q live course after stage.Idle empty, omega (arith, some)) empty
 
   pub run_settles : (s : Stage) → s ≡ next_stage (left_of before_fill)
       → IsRun (facts_of book table q live course after s) course after × (facts_of book table q live course after s ≡ settled before_fill)
@@ -395,22 +387,28 @@ module _ (book : BookFacts) (table : Version) (q : Question) (live : Bool) (cour
       (all_front _ (length round.places.list) _ (all_front _ _ _ (all_dropped _ (done_of course) _ (all_own (question_uses table.model.rows q))))))))
 
   -- after the work
-  pub run_works : (final : Course) (cleared : Round) → IsCourse table.model.rows q final → IsAheadBy table.model.rows q final 0 → IsGoing final
-      → done_of final ≡ done_of course + length before_work.taken → IsEmpty cleared → HasRoom cleared
-      → cleared.fresh.list ≡ map (λ key. (key, key_verdict table.model.rows key)) (unfound round.keys.list round.found.list)
-      → IsRun (facts_of book table q live final cleared stage.Worked) final cleared
-      × (facts_of book table q live final cleared stage.Worked ≡ worked before_work)
-  run_works final cleared course_is by going done empty room fresh =
-      let seen = facts_of book table q live final cleared stage.Worked in
+  pub run_works : (final : Course) (spent : Round) → IsCourse table.model.rows q final → IsAheadBy table.model.rows q final 0 → IsGoing final
+      → done_of final ≡ done_of course + length before_work.taken → spent.places.list ≡ [] → spent.keys ≡ round.keys → spent.found ≡ round.found → HasRoom spent
+      → spent.values.list ≡ map (key_verdict table.model.rows) round.keys.list
+      → IsRun (facts_of book table q live final spent stage.Worked) final spent
+      × (facts_of book table q live final spent stage.Worked ≡ worked before_work)
+  run_works final spent course_is by going done places keys found room values =
+      let seen = facts_of book table q live final spent stage.Worked in
       let all = all_length table.model.rows q final course_is in
       let most = done_within table.model.rows q final course_is 0 by in
-      let no_places : length cleared.places.list ≡ 0 = ap (λ (l : List ℕ). length l) empty.places in
-      let no_taken : seen.taken ≡ [] = ap (λ (l : List ℕ). take (length l) (left_after table.model.rows q (done_of final))) empty.places in
-      let no_wanted : seen.wanted ≡ [] = ap (λ (l : List Key). unfound l cleared.found.list) empty.keys in
-      let own : AllByRecursion (IsOwn seen) cleared.fresh.list = subst (AllByRecursion (IsOwn seen)) (sym fresh)
-      (all_made (IsOwn seen) (λ key. (key, key_verdict table.model.rows key)) (unfound round.keys.list round.found.list)
-      (all_weaker (IsOwnKey before_work) (λ key. IsOwn seen (key, key_verdict table.model.rows key)) (λ key is_own. (is_own, refl)) (unfound round.keys.list round.found.list)
-      (all_unfound (IsOwnKey before_work) round.keys.list round.found.list own_keys_worked))) in (
+      let no_places : length spent.places.list ≡ 0 = ap (λ (l : List ℕ). length l) places in
+      let no_taken : seen.taken ≡ [] = ap (λ (l : List ℕ). take (length l) (left_after table.model.rows q (done_of final))) places in
+      let same_keys : spent.keys.list ≡ round.keys.list = ap (λ (k : Stack Key). k.list) keys in
+      let same_found : spent.found.list ≡ round.found.list = ap (λ (k : Stack (Option Verdict)). k.list) found in
+      let no_wanted : seen.wanted ≡ [] = (λ i. wanted_keys (values i) (same_keys i) (same_found i)) ∙ none_wanted (key_verdict table.model.rows) round.keys.list round.found.list in
+      let looked_for : wanted_keys round.values.list round.keys.list round.found.list ≡ unfound round.keys.list round.found.list = ap (λ vs. wanted_keys vs round.keys.list round.found.list) is.round_is.2 in
+      let fresh : seen.fresh ≡ map (λ key. (key, key_verdict table.model.rows key)) before_work.wanted =
+      (λ i. fresh_entries (values i) (same_keys i) (same_found i)) ∙ fresh_made (key_verdict table.model.rows) round.keys.list round.found.list
+      ∙ ap (map (λ key. (key, key_verdict table.model.rows key))) (sym looked_for) in
+      let own : AllByRecursion (IsOwn seen) seen.fresh = subst (AllByRecursion (IsOwn seen)) (sym fresh ∙ refl)
+      (all_made (IsOwn seen) (λ key. (key, key_verdict table.model.rows key)) before_work.wanted
+      (all_weaker (IsOwnKey before_work) (λ key. IsOwn seen (key, key_verdict table.model.rows key)) (λ key is_own. (is_own, refl)) before_work.wanted
+      (subst (AllByRecursion (IsOwnKey before_work)) (sym looked_for) (all_unfound (IsOwnKey before_work) round.keys.list round.found.list own_keys_worked)))) in (
         record {
           running = record {
             accepted = is.running.accepted;
@@ -419,13 +417,17 @@ module _ (book : BookFacts) (table : Version) (q : Question) (live : Bool) (cour
             cells = is.running.cells;
             not_refused = is.running.not_refused;
             within = omega (arith, most, all);
-            at_stage = record { no_taken = no_taken; no_wanted = no_wanted; own = λ entry there. all_at (IsOwn seen) cleared.fresh.list own entry there };
+            at_stage = record { no_taken = no_taken; no_wanted = no_wanted; own = λ entry there. all_at (IsOwn seen) seen.fresh own entry there };
           };
           course_is = course_is;
           ahead = subst (IsAheadBy table.model.rows q final) (sym no_places) by;
           going = going;
           room = room;
-          round_is = empty;
+          round_is = record {
+            places = places;
+            found = ap (λ (l : List (Option Verdict)). length l) same_found ∙ one_found_each table.model.rows round.keys.list round.found.list is.round_is.1 ∙ ap (λ (l : List Key). length l) (sym same_keys);
+            values = ap (λ (l : List Verdict). length l) values ∙ length-map round.keys.list (key_verdict table.model.rows) ∙ ap (λ (l : List Key). length l) (sym same_keys);
+          };
         },
         λ i. record {
           opening = book.opening;

@@ -1,7 +1,6 @@
 -- What stands for a state of the machine, and what the step of each event makes of it.
-use Rattle.std.proofs.Common.{◌≡◌, ◌≢◌, inl, inr, ℕ, zero, suc, ◌*◌, ◌<◌, ◌≤◌, ◌==◌, Bool, true, false, List, [], ◌∷◌, ◌++◌, length, get_or, set, codes, Option, Some, None, is_some, refl, sym, ap, subst, ◌∙◌, arith, length-append, length-set}
+use Rattle.std.proofs.Common.{◌≡◌, ◌≢◌, inl, inr, ℕ, zero, suc, ◌*◌, ◌<◌, ◌≤◌, ◌==◌, Bool, true, false, List, [], ◌∷◌, ◌++◌, length, get_or, set, codes, Option, Some, None, is_some, refl, sym, ap, subst, ◌∙◌, arith, length-set}
 use Rattle.std.proofs.lemmas.List.{get_or-set_same, get_or-set_other, set-get_or}
-use Rattle.solid_base.specs.declared.entities.Entity.{Entity}
 use Rattle.solid_base.specs.declared.entities.Model.{Model}
 use Rattle.solid_base.specs.declared.replies.Reply.{Reply}
 use Rattle.solid_base.specs.Graph.{weight_of}
@@ -20,7 +19,7 @@ use Rattle.ask_core.specs.Machine as machine
 use Rattle.ask_core.specs.Places as places
 use Rattle.ask_core.specs.Places.{AreRounds, IsRunOf, IsPlace, IsState, IsLooked, looked_for, IsWorkedOn, works, IsFilled, IsNewestReply, IsCommitted}
 use Rattle.ask_core.specs.Replies.{with_version, committed_reply, refused_reply, cancelled_reply}
-use Rattle.ask_core.specs.Runs.{RunFacts, GoesOnWith, IsRunning, begun, left_of, run_uses, next_stage, settled, with_taken, worked}
+use Rattle.ask_core.specs.Runs.{RunFacts, IsRunning, begun, left_of, run_uses, next_stage, settled, with_taken, worked}
 use Rattle.ask_core.specs.Timely.{IsDoneAfter, at_first, one_more}
 use Rattle.ask_core.specs.declared.runs.Stage.{Stage}
 use Rattle.ask_core.specs.declared.runs.Stage.TheVariants as stage

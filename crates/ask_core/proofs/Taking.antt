@@ -1,5 +1,5 @@
 -- One use more is taken.
-use Rattle.std.proofs.Common.{◌≡◌, ◌≢◌, ◌⊎◌, inl, inr, ℕ, zero, suc, ◌+◌, ◌<◌, ◌≤◌, Bool, true, false, not, cond, List, [], ◌∷◌, ◌++◌, length, take, drop, map, slice_get, Option, None, Some, Contains, MatchOption, refl, sym, ap, ◌∙◌, subst, arith, append-nil, length-append}
+use Rattle.std.proofs.Common.{◌≡◌, ℕ, zero, suc, ◌+◌, ◌<◌, ◌≤◌, Bool, true, false, not, cond, List, [], ◌∷◌, ◌++◌, length, map, slice_get, Option, Some, Contains, refl, sym, ap, ◌∙◌, subst, arith, append-nil, length-append}
 use Rattle.std.specs.List.{filter, AllByRecursion}
 use Rattle.std.proofs.lemmas.List.{map-append}
 use Rattle.std.proofs.lemmas.List.Elements.{filter-append}
@@ -7,11 +7,11 @@ use Rattle.solid_base.specs.declared.classes.Verdict.{Verdict}
 use Rattle.solid_eval.specs.Uses.{Use}
 use Rattle.memo_graph.specs.declared.key.Key.{Key}
 use Rattle.memo_graph.specs.Memos.{Entry, MemoFacts, same_key, promoted, verdict_of}
-use Rattle.memo_graph.proofs.Keys.{same_key_exact, same_key_self, different_keys}
+use Rattle.memo_graph.proofs.Keys.{same_key_exact, different_keys}
 use Rattle.memo_graph.proofs.Keeping.{verdicts-promoted}
 use Rattle.edit_core.specs.Versions.{Version}
 use Rattle.ask_core.specs.Runs.{use_key, use_keys, distinct, looked, most_keys}
-use Rattle.ask_core.specs.Rounds.{picked, IsPrimitiveKey, IsRoundOf, IsTaking}
+use Rattle.ask_core.specs.Rounds.{picked, IsPrimitiveKey, IsTaking}
 use Rattle.ask_core.specs.declared.rounds.Round.{Round}
 use Rattle.ask_core.proofs.Picked.{grown_picked, last_get}
 

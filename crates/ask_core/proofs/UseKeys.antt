@@ -1,8 +1,5 @@
 -- The key of a use, and the verdict on it.
-use Rattle.std.proofs.Common.{◌≡◌, ◌≢◌, ◌⊎◌, inl, inr, ℕ, ◌+◌, ◌<◌, ◌≤◌, ◌%◌, ◌/◌, ◌==◌, Bool, true, false, cond, List, [], ◌∷◌, ◌++◌, length, take, drop, map, slice_get, Option, None, Some, MatchOption, refl, sym, ap, ◌∙◌, subst, arith, append_assoc}
-use Rattle.std.specs.List.{AllByRecursion}
-use Rattle.std.proofs.lemmas.Bool.Decides.{nat_tests}
-use Rattle.solid_base.specs.declared.classes.Verdict.{Verdict}
+use Rattle.std.proofs.Common.{◌≡◌, ◌≢◌, ◌⊎◌, inl, inr, ℕ, ◌≤◌, List, [], ◌∷◌, ◌++◌, length, Some, refl, sym, ap, ◌∙◌, subst, arith, append_assoc}
 use Rattle.solid_base.specs.declared.entities.Entity.{Entity}
 use Rattle.solid_base.specs.declared.solids.Row.TheVariants as row
 use Rattle.solid_base.specs.References.{row_at, HasNumber, at_number}
@@ -11,15 +8,15 @@ use Rattle.fixed_enclosure.specs.declared.enclosures.Box3.{Box3}
 use Rattle.fixed_enclosure.specs.declared.enclosures.Enc.{Enc}
 use Rattle.fixed_enclosure.specs.declared.enclosures.Enc.TheVariants as enc
 use Rattle.fixed_enclosure.specs.Places.{Span3, spans_of}
-use Rattle.fixed_enclosure.specs.Spans.{Span, Every, Between, enc_span, IsBox}
-use Rattle.solid_eval.specs.Solids.{solid_of, IsPrimitiveRow}
+use Rattle.fixed_enclosure.specs.Spans.{Span, Every, Between, enc_span}
+use Rattle.solid_eval.specs.Solids.{IsPrimitiveRow}
 use Rattle.solid_eval.specs.Uses.{Use, use_verdict}
 use Rattle.memo_graph.specs.declared.key.Key.{Key}
 use Rattle.memo_graph.specs.Memos.{Entry, MemoFacts}
 use Rattle.edit_core.specs.Versions.{Version}
 use Rattle.ask_core.specs.Books.{key_verdict}
 use Rattle.ask_core.specs.Runs.{use_key, use_keys, stamp_in, or_zero, enc_of, box_of_spans, most_keys, most_uses, IsTaken, Stops}
-use Rattle.ask_core.specs.Rounds.{use_of, uses_ahead, IsRoundOf, IsTaking, HasTaken}
+use Rattle.ask_core.specs.Rounds.{use_of, uses_ahead, IsTaking, HasTaken}
 use Rattle.ask_core.specs.declared.course.Ahead.{Ahead}
 use Rattle.ask_core.specs.declared.rounds.Round.{Round}
 use Rattle.ask_core.proofs.Picked.{picked_length}

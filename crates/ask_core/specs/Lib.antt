@@ -4,6 +4,7 @@ pub mod Replies
 pub mod Books
 pub mod Runs
 pub mod Rounds
+pub mod KeyMarks
 pub mod RunStates
 pub mod Begins
 pub mod Machine

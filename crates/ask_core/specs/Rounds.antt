@@ -102,6 +102,22 @@ unfound (key ∷ keys) [] = []
 unfound (key ∷ keys) (None ∷ found) = key ∷ unfound keys found
 unfound (key ∷ keys) (Some verdict ∷ found) = unfound keys found
 
+-- solidd's own: of the verdicts on keys those that weren't found, each with its key
+abbrev pub fresh_entries : List Verdict → List Key → List (Option Verdict) → List Entry
+fresh_entries [] keys found = []
+fresh_entries (verdict ∷ verdicts) [] found = []
+fresh_entries (verdict ∷ verdicts) (key ∷ keys) [] = []
+fresh_entries (verdict ∷ verdicts) (key ∷ keys) (None ∷ found) =
+    (key, verdict) ∷ fresh_entries verdicts keys found
+fresh_entries (verdict ∷ verdicts) (key ∷ keys) (Some old ∷ found) =
+    fresh_entries verdicts keys found
+
+-- solidd's own: the keys that are to be evaluated: those that weren't found, as long as there are
+-- no verdicts
+abbrev pub wanted_keys : List Verdict → List Key → List (Option Verdict) → List Key
+wanted_keys [] keys found = unfound keys found
+wanted_keys (verdict ∷ verdicts) keys found = []
+
 -- solidd's own: what was found under each key is its verdict
 abbrev pub AreRight : List Entity → List Key → List (Option Verdict) → Type 0
 AreRight rows [] found = found ≡ []
@@ -119,7 +135,6 @@ pub record HasRoom (round : Round) : Type 0 where
   pub keys : most_keys ≤ length round.keys.list + round.keys.spare
   pub found : most_keys ≤ length round.found.list + round.found.spare
   pub values : most_keys ≤ length round.values.list + round.values.spare
-  pub fresh : most_keys ≤ length round.fresh.list + round.fresh.spare
 
 -- solidd's own: a round has these uses: its keys are theirs, each once, and each use has its key's
 -- place
@@ -143,6 +158,12 @@ pub record IsEmpty (round : Round) : Type 0 where
   pub keys : round.keys.list ≡ []
   pub found : round.found.list ≡ []
   pub values : round.values.list ≡ []
+
+-- a round that has a verdict on each key, and has added those on its uses
+pub record HasVerdicts (round : Round) : Type 0 where
+  pub places : round.places.list ≡ []
+  pub found : length round.found.list ≡ length round.keys.list
+  pub values : length round.values.list ≡ length round.keys.list
 
 -- solidd's own: of the uses that were left in a cell a round has the first, and the others are
 -- ahead

@@ -9,8 +9,8 @@ use Rattle.solid_questions.specs.Questions.{entity_of}
 use Rattle.edit_core.specs.Versions.{Version}
 use Rattle.ask_core.specs.Books.{BookFacts}
 use Rattle.ask_core.specs.Runs.{RunFacts, IsRunning, question_uses}
-use Rattle.ask_core.specs.Rounds.{done_of, unfound, IsCourse, IsAheadBy, IsGoing, HasRoom}
-use Rattle.ask_core.specs.Rounds.{AreRight, IsRoundOf, IsEmpty}
+use Rattle.ask_core.specs.Rounds.{done_of, fresh_entries, wanted_keys, IsCourse, IsAheadBy, IsGoing}
+use Rattle.ask_core.specs.Rounds.{AreRight, IsRoundOf, HasRoom, HasVerdicts, IsEmpty}
 use Rattle.ask_core.specs.declared.course.Course.{Course}
 use Rattle.ask_core.specs.declared.rounds.Round.{Round}
 use Rattle.ask_core.specs.declared.runs.Stage.{Stage}
@@ -43,19 +43,19 @@ facts_of book table q live course round stage = record {
   live = live;
   done = done_of course;
   taken = take (length round.places.list) (left_after table.model.rows q (done_of course));
-  wanted = unfound round.keys.list round.found.list;
-  fresh = round.fresh.list;
+  wanted = wanted_keys round.values.list round.keys.list round.found.list;
+  fresh = fresh_entries round.values.list round.keys.list round.found.list;
   stage = stage;
 }
 
 -- what the round has at each stage, by the uses that are taken
 abbrev pub IsRoundAt : Version → List Use → Round → Stage → Type 0
-IsRoundAt version taken round stage.Idle = IsEmpty round × (round.fresh.list ≡ [])
+IsRoundAt version taken round stage.Idle = IsEmpty round
 IsRoundAt version taken round stage.Ready = IsRoundOf version taken round
     × AreRight version.model.rows round.keys.list round.found.list
-    × (round.values.list ≡ []) × (round.fresh.list ≡ [])
-IsRoundAt version taken round stage.Worked = IsEmpty round
-IsRoundAt version taken round stage.Done = IsEmpty round × (round.fresh.list ≡ [])
+    × (round.values.list ≡ [])
+IsRoundAt version taken round stage.Worked = HasVerdicts round
+IsRoundAt version taken round stage.Done = IsEmpty round
 
 -- what holds of what a run keeps, and of what contracts see of it
 pub record IsRun (run : RunFacts) (course : Course) (round : Round) : Type 0 where

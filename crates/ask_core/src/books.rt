@@ -3,7 +3,6 @@ ghost use Rattle.std.specs.Prelude.{IfOk, IfErr, OnOk, OnErr, IsTrue};
 ghost use Rattle.std.specs.Arc.{arc_value};
 ghost use Rattle.iges_parameters.specs.Accepted.{IsAccepted, lines_of};
 ghost use Rattle.solid_questions.specs.Questions.{IsLawful};
-ghost use Rattle.memo_graph.specs.Memos.{IsMemo};
 ghost use Rattle.edit_core.specs.EditFaults.{IsOfText, IsOuter};
 ghost use Rattle.edit_core.specs.Edits.{IsRefused};
 ghost use Rattle.edit_core.specs.Versions.{IsOpening, IsNext};
@@ -18,8 +17,8 @@ use crate::commits::{Commit, Commits};
 use crate::runs::Run;
 use edit_core::{EditFault, Table};
 use entity_graph::Graph;
-use memo_graph::{Key, Memo};
-use solid_base::{Bytes, Model as SolidModel, NoTally, Reply, Verdict};
+use memo_graph::Memo;
+use solid_base::{Bytes, Model as SolidModel, NoTally, Reply};
 use solid_questions::Question;
 use std::alloc::{AllocError, Global};
 use std::marker::Model;
@@ -96,22 +95,6 @@ fn reply_afresh(alloc: Global, table: &Table, question: &Question) -> Result<Rep
         version: Some(table.version()),
         body,
     })
-}
-
-/// Keeps entries in a memo, one after the other, up to the first that lacks memory.
-fn keep(memo: &mut Memo, fresh: &[(Key, Verdict)]) -> Result<(), AllocError>
-    requires valid { IsMemo memo.old }
-    ensures ok { OnOk result (memo.new.entries ≡
-        kept_all memo.old.capacity fresh.now memo.old.entries) }
-    ensures err { OnErr result ((k : ℕ) × (k < length fresh.now) × (memo.new.entries ≡
-        kept_all memo.old.capacity (take k fresh.now) memo.old.entries)) }
-    ensures capacity { memo.new.capacity ≡ memo.old.capacity }
-    ensures valid { IsMemo memo.new }
-{
-    for (key, verdict) in fresh {
-        memo.fill(*key, *verdict)?;
-    }
-    Ok(())
 }
 
 impl Book {
@@ -265,7 +248,7 @@ impl Book {
         ensures table { self.new.table ≡ self.old.table }
     {
         run.obeys();
-        let kept = keep(&mut self.memo, run.fresh());
+        let kept = run.keep(&mut self.memo);
         run.settle();
         kept
     }

@@ -16,6 +16,7 @@ mod commits;
 mod course;
 mod crossing;
 mod events;
+mod keys;
 pub mod laws;
 mod logged;
 mod machine;

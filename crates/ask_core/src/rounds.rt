@@ -1,6 +1,6 @@
 ghost use Rattle.std.specs.Prelude.{◌≡◌, ◌≢◌, ◌↔◌, ℕ, ◌+◌, ◌<◌, ◌≤◌, List, [], ◌∷◌, ◌++◌};
 ghost use Rattle.std.specs.Prelude.{length, map};
-ghost use Rattle.std.specs.Prelude.{MatchOption, Some, Contains, IfOk, true, false};
+ghost use Rattle.std.specs.Prelude.{MatchOption, Some, Contains, IfOk, OnOk, OnErr, take, true, false};
 ghost use Rattle.std.specs.List.{AllByRecursion};
 ghost use Rattle.solid_base.specs.declared.entities.Entity.{Entity};
 ghost use Rattle.solid_base.specs.Ledgers.{counted};
@@ -8,16 +8,19 @@ ghost use Rattle.solid_base.specs.Ranges.{IsLawfulRow};
 ghost use Rattle.solid_base.specs.References.{row_at};
 ghost use Rattle.solid_eval.specs.Solids.{IsPrimitiveRow};
 ghost use Rattle.solid_eval.specs.Uses.{Use};
-ghost use Rattle.memo_graph.specs.Memos.{Entry, verdict_of, promoted};
+ghost use Rattle.memo_graph.specs.Memos.{Entry, IsMemo, verdict_of, promoted};
 ghost use Rattle.edit_core.specs.Versions.{Version};
 ghost use Rattle.ask_core.specs.Books.{key_verdict};
-ghost use Rattle.ask_core.specs.Runs.{use_key, use_keys, most_keys, most_uses, IsTaken, Stops};
+ghost use Rattle.ask_core.specs.Runs.{use_key, use_keys, kept_all, most_keys, most_uses, IsTaken};
+ghost use Rattle.ask_core.specs.Runs.{Stops};
 ghost use Rattle.ask_core.specs.Rounds.{uses_ahead, IsAhead, IsPrimitiveKey, unfound, AreRight};
-ghost use Rattle.ask_core.specs.Rounds.{picked, HasRoom, IsRoundOf, IsTaking, HasTaken, IsEmpty};
+ghost use Rattle.ask_core.specs.Rounds.{picked, fresh_entries, HasRoom, IsTaking, HasTaken};
+ghost use Rattle.ask_core.specs.Rounds.{IsEmpty};
 
 use crate::course::Ahead;
+use crate::keys::Keys;
 use edit_core::Table;
-use memo_graph::{Key, Memo};
+use memo_graph::{HashedKey, Key, Memo};
 use solid_base::{Ledger, Rows, Stack, Verdict, Verdicts};
 use solid_eval::primitive_verdict;
 use std::alloc::{AllocError, Global};
@@ -29,35 +32,13 @@ const MOST_KEYS: usize = 64;
 const MOST_USES: usize = 256;
 
 /// A round of a run: the distinct keys of the uses that are taken, of each what was found and what
-/// its verdict is, and of each use the place of its key.
+/// its verdict is, and of each use that isn't done yet the place of its key.
 #[derive(Drop)]
 pub(crate) struct Round {
     pub(crate) places: Stack<u8>,
-    pub(crate) keys: Stack<Key>,
+    pub(crate) keys: Keys,
     pub(crate) found: Stack<Option<Verdict>>,
     pub(crate) values: Verdicts,
-    pub(crate) fresh: Stack<(Key, Verdict)>,
-}
-
-/// Whether two keys are the same.
-fn is_same(a: &Key, b: &Key) -> bool
-    ensures { (result ≡ true) ↔ (a.now ≡ b.now) }
-{
-    a == b
-}
-
-/// The place of a key among others.
-fn place_of(keys: &[Key], key: &Key) -> Option<u8>
-    requires few { length keys.now ≤ most_keys }
-    ensures { MatchOption result (¬ Contains keys.now key.now)
-        (λ place. picked keys.now (place ∷ []) ≡ Some key.now ∷ []) }
-{
-    for place in 0..keys.len() {
-        if is_same(&keys[place], key) {
-            return Some(place as u8);
-        }
-    }
-    None
 }
 
 impl Round {
@@ -65,26 +46,23 @@ impl Round {
     /// memory.
     pub(crate) fn new(alloc: Global) -> Result<Round, AllocError>
         ensures empty { IfOk result IsEmpty }
-        ensures fresh { IfOk result (λ round. round.fresh.list ≡ []) }
         ensures room { IfOk result HasRoom }
     {
         let mut round = Round {
             places: Stack::new(alloc),
-            keys: Stack::new(alloc),
+            keys: Keys::new(alloc),
             found: Stack::new(alloc),
             values: Verdicts::new(alloc),
-            fresh: Stack::new(alloc),
         };
         round.places.reserve(MOST_USES)?;
         round.keys.reserve(MOST_KEYS)?;
         round.found.reserve(MOST_KEYS)?;
         round.values.reserve(MOST_KEYS)?;
-        round.fresh.reserve(MOST_KEYS)?;
         Ok(round)
     }
 
     /// Looks for a new key, and answers its place.
-    fn add(&mut self, key: &Key, memo: &mut Memo) -> u8
+    fn add(&mut self, key: &HashedKey, memo: &mut Memo) -> u8
         requires room { HasRoom self.old }
         requires few { length self.old.keys.list < most_keys }
         requires each { length self.old.found.list ≡ length self.old.keys.list }
@@ -94,18 +72,17 @@ impl Round {
             ≡ self.old.found.list ++ verdict_of key.now memo.old.entries ∷ [] }
         ensures entries { memo.new.entries ≡ promoted key.now memo.old.entries }
         ensures capacity { memo.new.capacity ≡ memo.old.capacity }
-        ensures rest { (self.new.places ≡ self.old.places) × (self.new.values ≡ self.old.values)
-            × (self.new.fresh ≡ self.old.fresh) }
+        ensures rest { (self.new.places ≡ self.old.places) × (self.new.values ≡ self.old.values) }
         ensures room { HasRoom self.new }
     {
         let place = self.keys.len() as u8;
-        self.keys.push(*key).unwrap();
+        self.keys.push(key);
         self.found.push(memo.look(key)).unwrap();
         place
     }
 
     /// Takes a use by its key, unless that is one key too many.
-    fn take(&mut self, key: &Key, memo: &mut Memo) -> bool
+    fn take(&mut self, key: &HashedKey, memo: &mut Memo) -> bool
         requires room { HasRoom self.old }
         requires few { length self.old.places.list < most_uses }
         requires few_keys { length self.old.keys.list ≤ most_keys }
@@ -123,10 +100,10 @@ impl Round {
         ensures one { result ≡ true →
             length self.new.places.list ≡ length self.old.places.list + 1 }
         ensures capacity { memo.new.capacity ≡ memo.old.capacity }
-        ensures rest { (self.new.values ≡ self.old.values) × (self.new.fresh ≡ self.old.fresh) }
+        ensures values { self.new.values ≡ self.old.values }
         ensures room { HasRoom self.new }
     {
-        let place = match place_of(self.keys.as_slice(), key) {
+        let place = match self.keys.place_of(key) {
             Some(place) => place,
             None if self.keys.len() < MOST_KEYS => self.add(key, memo),
             None => return false,
@@ -157,7 +134,7 @@ impl Round {
             length self.new.places.list ≡ length self.old.places.list + 1 }
         ensures few { length self.new.places.list ≤ most_uses }
         ensures capacity { memo.new.capacity ≡ memo.old.capacity }
-        ensures rest { (self.new.values ≡ self.old.values) × (self.new.fresh ≡ self.old.fresh) }
+        ensures values { self.new.values ≡ self.old.values }
         ensures room { HasRoom self.new }
         ensures ahead { IsAhead table.now.model.rows ahead.new }
         ensures primitives { AllByRecursion (λ u. IsPrimitiveRow
@@ -171,7 +148,8 @@ impl Round {
         }
         table.obeys();
         let stamp = table.stamp(de);
-        let taken = self.take(&Key { de, stamp, at }, memo);
+        let key = HashedKey::of(Key { de, stamp, at });
+        let taken = self.take(&key, memo);
         if taken {
             ahead.pass(table.rows());
         }
@@ -192,7 +170,7 @@ impl Round {
             × (uses_ahead table.now.model.rows ahead.old
             ≡ taken ++ uses_ahead table.now.model.rows ahead.new) }
         ensures capacity { memo.new.capacity ≡ memo.old.capacity }
-        ensures rest { (self.new.values ≡ self.old.values) × (self.new.fresh ≡ self.old.fresh) }
+        ensures values { self.new.values ≡ self.old.values }
         ensures room { HasRoom self.new }
         ensures ahead { IsAhead table.now.model.rows ahead.new }
     {
@@ -206,7 +184,6 @@ impl Round {
         requires right { AreRight rows.now self.old.keys.list self.old.found.list }
         requires few { length self.old.keys.list ≤ most_keys }
         requires values { self.old.values.list ≡ [] }
-        requires fresh { self.old.fresh.list ≡ [] }
         requires inside { AllByRecursion (λ place. place < length self.old.keys.list)
             self.old.places.list }
         requires room { HasRoom self.old }
@@ -215,9 +192,9 @@ impl Round {
             ++ picked (map (key_verdict rows.now) self.old.keys.list) self.old.places.list }
         ensures known_kept { length known.new.list + known.new.spare
             ≡ length known.old.list + known.old.spare }
-        ensures fresh { self.new.fresh.list ≡ map (λ key. (key, key_verdict rows.now key))
-            (unfound self.old.keys.list self.old.found.list) }
-        ensures empty { IsEmpty self.new }
+        ensures values { self.new.values.list ≡ map (key_verdict rows.now) self.old.keys.list }
+        ensures places { self.new.places.list ≡ [] }
+        ensures rest { (self.new.keys ≡ self.old.keys) × (self.new.found ≡ self.old.found) }
         ensures room { HasRoom self.new }
         ensures counted { L.count leaves.new ≡ counted (L.count leaves.old)
             (length (unfound self.old.keys.list self.old.found.list)) }
@@ -227,76 +204,119 @@ impl Round {
             self.keys.as_slice(),
             self.found.as_slice(),
             &mut self.values,
-            &mut self.fresh,
             leaves,
         );
         spread(self.values.as_slice(), self.places.as_slice(), known);
         self.places.clear();
+    }
+
+    /// Keeps the verdicts that weren't found in a memo, up to the first that lacks memory.
+    pub(crate) fn keep(&self, memo: &mut Memo) -> Result<(), AllocError>
+        requires valid { IsMemo memo.old }
+        requires found { length self.now.found.list ≡ length self.now.keys.list }
+        requires values { length self.now.values.list ≡ length self.now.keys.list }
+        ensures ok { OnOk result (memo.new.entries ≡ kept_all memo.old.capacity
+            (fresh_entries self.now.values.list self.now.keys.list self.now.found.list)
+            memo.old.entries) }
+        ensures err { OnErr result ((k : ℕ)
+            × (k < length (fresh_entries self.now.values.list self.now.keys.list self.now.found.list))
+            × (memo.new.entries ≡ kept_all memo.old.capacity (take k
+            (fresh_entries self.now.values.list self.now.keys.list self.now.found.list))
+            memo.old.entries)) }
+        ensures capacity { memo.new.capacity ≡ memo.old.capacity }
+        ensures valid { IsMemo memo.new }
+    {
+        keep(
+            memo,
+            self.values.as_slice(),
+            self.keys.as_slice(),
+            self.found.as_slice(),
+        )
+    }
+
+    /// Takes off what the round has. No memory is taken.
+    pub(crate) fn clear(&mut self)
+        requires room { HasRoom self.old }
+        requires places { self.old.places.list ≡ [] }
+        ensures empty { IsEmpty self.new }
+        ensures room { HasRoom self.new }
+    {
         self.keys.clear();
         self.found.clear();
         self.values.clear();
     }
 }
 
-/// The verdict on a key that wasn't found is evaluated, and kept as a fresh one.
-fn evaluate_key<L: Ledger>(
+/// The verdict on a key: as it was found, or evaluated.
+fn verdict_on<L: Ledger>(
     rows: &Rows,
-    key: &Key,
+    key: &HashedKey,
     found: Option<Verdict>,
-    fresh: &mut Stack<(Key, Verdict)>,
     leaves: &mut L,
 ) -> Verdict
     requires rows { AllByRecursion (λ e. IsLawfulRow e.row) rows.now }
     requires primitive { IsPrimitiveKey rows.now key.now }
     requires right { MatchOption found (Unit {0}) (λ verdict.
         verdict ≡ key_verdict rows.now key.now) }
-    requires room { 0 < fresh.old.spare }
     ensures verdict { result ≡ key_verdict rows.now key.now }
-    ensures fresh { fresh.new.list ≡ fresh.old.list ++ map (λ key. (key, key_verdict rows.now key))
-        (unfound (key.now ∷ []) (found ∷ [])) }
-    ensures room { length fresh.new.list + fresh.new.spare
-        ≡ length fresh.old.list + fresh.old.spare }
     ensures counted { L.count leaves.new ≡ counted (L.count leaves.old)
         (length (unfound (key.now ∷ []) (found ∷ []))) }
 {
     match found {
         Some(verdict) => verdict,
-        None => {
-            let verdict = primitive_verdict(rows, key.de, &key.at, leaves);
-            fresh.push((*key, verdict)).unwrap();
-            verdict
-        }
+        None => primitive_verdict(rows, key.key().de, &key.key().at, leaves),
     }
 }
 
 /// The verdicts on keys.
 fn evaluate<L: Ledger>(
     rows: &Rows,
-    keys: &[Key],
+    keys: &[HashedKey],
     found: &[Option<Verdict>],
     values: &mut Verdicts,
-    fresh: &mut Stack<(Key, Verdict)>,
     leaves: &mut L,
 )
     requires rows { AllByRecursion (λ e. IsLawfulRow e.row) rows.now }
     requires primitives { AllByRecursion (IsPrimitiveKey rows.now) keys.now }
     requires right { AreRight rows.now keys.now found.now }
-    requires values_room { length keys.now ≤ values.old.spare }
-    requires fresh_room { length keys.now ≤ fresh.old.spare }
+    requires room { length keys.now ≤ values.old.spare }
     ensures values { values.new.list ≡ values.old.list ++ map (key_verdict rows.now) keys.now }
-    ensures values_kept { length values.new.list + values.new.spare
+    ensures kept { length values.new.list + values.new.spare
         ≡ length values.old.list + values.old.spare }
-    ensures fresh { fresh.new.list ≡ fresh.old.list ++ map (λ key. (key, key_verdict rows.now key))
-        (unfound keys.now found.now) }
-    ensures fresh_kept { length fresh.new.list + fresh.new.spare
-        ≡ length fresh.old.list + fresh.old.spare }
     ensures counted { L.count leaves.new ≡ counted (L.count leaves.old)
         (length (unfound keys.now found.now)) }
 {
     for place in 0..keys.len() {
-        let value = evaluate_key(rows, &keys[place], found[place], fresh, leaves);
+        let value = verdict_on(rows, &keys[place], found[place], leaves);
         values.push(value).unwrap();
     }
+}
+
+/// Keeps the verdict on each key that wasn't found in a memo, one after the other, up to the first
+/// that lacks memory.
+fn keep(
+    memo: &mut Memo,
+    values: &[Verdict],
+    keys: &[HashedKey],
+    found: &[Option<Verdict>],
+) -> Result<(), AllocError>
+    requires valid { IsMemo memo.old }
+    requires found { length found.now ≡ length keys.now }
+    requires values { length values.now ≡ length keys.now }
+    ensures ok { OnOk result (memo.new.entries ≡ kept_all memo.old.capacity
+        (fresh_entries values.now keys.now found.now) memo.old.entries) }
+    ensures err { OnErr result ((k : ℕ) × (k < length (fresh_entries values.now keys.now found.now))
+        × (memo.new.entries ≡ kept_all memo.old.capacity
+        (take k (fresh_entries values.now keys.now found.now)) memo.old.entries)) }
+    ensures capacity { memo.new.capacity ≡ memo.old.capacity }
+    ensures valid { IsMemo memo.new }
+{
+    for place in 0..keys.len() {
+        if found[place].is_none() {
+            memo.fill(&keys[place], values[place])?;
+        }
+    }
+    Ok(())
 }
 
 /// Adds the verdict on each use, by the place of its key.

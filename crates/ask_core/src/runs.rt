@@ -1,5 +1,5 @@
 ghost use Rattle.std.specs.Prelude.{◌≡◌, ◌↔◌, ◌⊎◌, ◌<◌, ◌++◌, [], ◌∷◌, length, codes, decimal};
-ghost use Rattle.std.specs.Prelude.{ℕ, List, IfOk, OnOk, MatchOption, Some, true};
+ghost use Rattle.std.specs.Prelude.{ℕ, List, IfOk, OnOk, OnErr, MatchOption, Some, take, true};
 ghost use mathlib.Core.List.{IsPrefix};
 ghost use Rattle.std.specs.Arc.{arc_value};
 ghost use Rattle.solid_base.specs.declared.classes.Verdict.{Verdict as verdict};
@@ -14,14 +14,14 @@ ghost use Rattle.ask_core.specs.Books.{AsksCells, IsNotRefused, key_verdict};
 ghost use Rattle.ask_core.specs.Replies.{cancelled_reply};
 ghost use Rattle.ask_core.specs.RunStates.{AsksOneCell};
 ghost use Rattle.ask_core.specs.Runs.{IsTaken, with_taken, worked, settled, looked, use_keys};
-ghost use Rattle.ask_core.specs.Runs.{begun, next_stage, left_of, left_in_cell, IsOwnKey};
-ghost use Rattle.ask_core.specs.Runs.{IsRunning};
+ghost use Rattle.ask_core.specs.Runs.{begun, kept_all, next_stage, left_of, left_in_cell};
+ghost use Rattle.ask_core.specs.Runs.{IsOwnKey, IsRunning};
 
 use crate::books::Book;
 use crate::course::Course;
 use crate::rounds::Round;
 use edit_core::Table;
-use memo_graph::{Key, Memo};
+use memo_graph::Memo;
 use solid_base::{Bytes, Ledger, Reply, Verdict, word};
 use solid_questions::{Question, push_body, render};
 use std::alloc::{AllocError, Global};
@@ -195,11 +195,19 @@ impl Run {
         progress_with(self.course.left())
     }
 
-    /// The entries that the run has worked out since its last look.
-    pub(crate) fn fresh(&self) -> &[(Key, Verdict)]
-        ensures { result.now ≡ self.now.fresh }
+    /// Keeps the entries that the run has worked out in a memo, one after the other, up to the
+    /// first that lacks memory.
+    pub(crate) fn keep(&self, memo: &mut Memo) -> Result<(), AllocError>
+        requires valid { IsMemo memo.old }
+        requires worked { self.now.stage ≡ Stage.Worked }
+        ensures ok { OnOk result (memo.new.entries ≡
+            kept_all memo.old.capacity self.now.fresh memo.old.entries) }
+        ensures err { OnErr result ((k : ℕ) × (k < length self.now.fresh) × (memo.new.entries ≡
+            kept_all memo.old.capacity (take k self.now.fresh) memo.old.entries)) }
+        ensures capacity { memo.new.capacity ≡ memo.old.capacity }
+        ensures valid { IsMemo memo.new }
     {
-        self.round.fresh.as_slice()
+        self.round.keep(memo)
     }
 
     /// Ends a round, after its work.
@@ -208,7 +216,7 @@ impl Run {
         ensures run { self.new ≡ settled self.old }
     {
         self.stage = stage_after(self.course.left());
-        self.round.fresh.clear();
+        self.round.clear();
     }
 
     /// How many uses of primitives are left.

@@ -1,6 +1,4 @@
 use Rattle.std.proofs.Common.{rules, ◌≡◌}
-use Rattle.ask_core.specs.Runs.{kept_all}
-use Rattle.ask_core.specs.Books.{memo_capacity}
 use Rattle.ask_core.specs.declared.runs.Stage.TheVariants as stage
 use Rattle.ask_core.proofs.PlaceSteps.{ends_with, goes_on_with}
 use Rattle.ask_core.proofs.machine.fill.Goals as goal

@@ -1,4 +1,4 @@
-use Rattle.std.proofs.Common.{◌∙◌, ap}
+use Rattle.std.proofs.Common.{ap}
 use Rattle.ask_core.specs.Books.{BookFacts}
 use Rattle.ask_core.proofs.BooksKept.{not_at_once}
 use Rattle.ask_core.proofs.books.Book.begin.Goals as goal

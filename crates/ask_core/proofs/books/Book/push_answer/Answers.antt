@@ -1,5 +1,5 @@
 use Rattle.std.proofs.Common.{OnOk, ap, arith, subst}
-use Rattle.ask_core.specs.Runs.{RunFacts, left_of}
+use Rattle.ask_core.specs.Runs.{RunFacts}
 use Rattle.ask_core.specs.Thrift.{IsThrifty}
 use Rattle.ask_core.proofs.Evaluated.{on_ok}
 use Rattle.ask_core.proofs.AskedAnswers.{Adds, RisesAtMost, few_left, run_rises, still_rises, answer_before}

@@ -12,7 +12,7 @@ returns-in-None-2-clause-full c version entries taken u own is _ =
     let full = c.if-len-lt-MOST_KEYS.false in
     let len = c.len.ensures in
     one_too_many version taken u c.args.self.now.keys.list is.of.keys (omega (arith, full, len))
-    (subst (λ k. ¬ Contains c.args.self.now.keys.list k) (sym own) (rw c.as_slice.ensures at c.in-None.ensures))
+    (subst (λ k. ¬ Contains c.args.self.now.keys.list k) (sym own) c.in-None.ensures)
 
 pub returns-clause-taken : goal.returns-clause-taken
 returns-clause-taken c version entries taken u own primitive is _ =
@@ -22,13 +22,13 @@ returns-clause-taken c version entries taken u own primitive is _ =
       | in-Some w ↦
           held_taken version entries taken u c.args.self.now _ c.args.memo.now _ c.match-place_of.place is
           (ap (slice_get c.args.self.now.keys.list) w.place-is
-          ∙ only_one _ _ (rw c.as_slice.ensures at w.in-Some.ensures) ∙ ap Some (sym own))
+          ∙ only_one _ _ w.in-Some.ensures ∙ ap Some (sym own))
           (ap (λ (r : Round). r.keys.list) w.self-is) (ap (λ (r : Round). r.found.list) w.self-is)
           (put ∙ ap (λ (r : Round). r.places.list ++ c.match-place_of.place ∷ []) w.self-is)
           (ap (λ (m : MemoFacts). m.entries) w.memo-is)
       | in-None w ↦
           new_taken version entries taken u c.args.self.now _ c.args.memo.now _ is
-          (subst (λ k. ¬ Contains c.args.self.now.keys.list k) (sym own) (rw c.as_slice.ensures at w.in-None.ensures))
+          (subst (λ k. ¬ Contains c.args.self.now.keys.list k) (sym own) w.in-None.ensures)
           (let less = w.if-len-lt-MOST_KEYS.true in let len = w.len.ensures in omega (arith, less, len))
           own_primitive
           (ap (λ (r : Round). r.keys.list) w.self-is ∙ w.add-place.ensures.keys ∙ ap (λ k. c.args.self.now.keys.list ++ k ∷ []) (sym own))

@@ -20,8 +20,7 @@ loop-preserved c =
       ahead = next.ahead;
       primitives = next.primitives;
       capacity = next.capacity ∙ now.capacity;
-      values = next.rest.0 ∙ now.values;
-      fresh = next.rest.1 ∙ now.fresh;
+      values = next.values ∙ now.values;
     }
 
 pub returns-clause-taken : goal.returns-clause-taken

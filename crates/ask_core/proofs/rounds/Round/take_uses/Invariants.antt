@@ -18,7 +18,6 @@ invariant-loop l = record {
   primitives : AllByRecursion (λ u. IsPrimitiveRow (row_at l.table.model.rows u.number)) (uses_ahead l.table.model.rows l.ahead);
   capacity : l.memo.capacity ≡ l.fn.memo.capacity;
   values : l.self.values ≡ l.fn.self.values;
-  fresh : l.self.fresh ≡ l.fn.self.fresh;
 }
 
 abbrev pub decreases-loop : goal.decreases-loop

@@ -1,4 +1,4 @@
-use Rattle.std.proofs.Common.{◌≡◌, ◌-◌, refl, sym, ap, ◌∙◌, subst, arith}
+use Rattle.std.proofs.Common.{◌≡◌, ◌-◌, sym, ap, ◌∙◌, subst, arith}
 use Rattle.std.specs.Arc.{arc_value}
 use Rattle.ask_core.specs.Runs.{RunFacts, settled, next_stage}
 use Rattle.ask_core.specs.Rounds.{done_of}
@@ -16,7 +16,7 @@ left-requires-clause-known c =
     omega (arith, within)
 
 abbrev after : (c : goal.After-clear) → Round
-after c = record { places = c.self.inside.round.places; keys = c.self.inside.round.keys; found = c.self.inside.round.found; values = c.self.inside.round.values; fresh = c.clear.new.self }
+after c = c.clear.new.self
 
 both : (c : goal.After-clear) → IsRun (facts_of c.self.inside.book.value (arc_value c.self.inside.table) c.self.inside.question c.self.inside.live c.self.inside.course (after c) c.stage_after-self-inside.result) c.self.inside.course (after c)
     × (facts_of c.self.inside.book.value (arc_value c.self.inside.table) c.self.inside.question c.self.inside.live c.self.inside.course (after c) c.stage_after-self-inside.result
@@ -26,7 +26,7 @@ both c =
     let here = subst (λ s. IsRun (facts_of c.self.inside.book.value (arc_value c.self.inside.table) c.self.inside.question c.self.inside.live c.self.inside.course c.self.inside.round s) c.self.inside.course c.self.inside.round) at c.self.invariant in
     let all = all_length (arc_value c.self.inside.table).model.rows c.self.inside.question c.self.inside.course here.course_is in
     run_settles c.self.inside.book.value (arc_value c.self.inside.table) c.self.inside.question c.self.inside.live c.self.inside.course c.self.inside.round (after c)
-    here refl refl refl refl c.clear.ensures.list c.clear.ensures.spare c.stage_after-self-inside.result
+    here c.clear.ensures.empty c.clear.ensures.room c.stage_after-self-inside.result
     (c.stage_after-self-inside.ensures ∙ ap next_stage (c.left.ensures ∙ ap (λ n. n - done_of c.self.inside.course) (sym all)))
 
 pub invariant_of-self : goal.invariant_of-self

@@ -57,7 +57,7 @@ invariant_of-self c =
     is_ready c.self.inside.book.value (arc_value c.self.inside.table) c.self.inside.question c.self.inside.live c.self.inside.course (after c) c.self.inside.round c.take_uses.new.self
     c.args.memo.now.entries c.take_uses.new.memo h.0 (here c) h.1 h.2 h.3 refl
     (subst (λ (r : RunFacts). (k : Key) (v : _) → IsOwnKey r k → verdict_of k c.args.memo.now.entries ≡ Some v → v ≡ key_verdict r.table.model.rows k) (sym (seen_is c)) c.requires.right)
-    refl refl refl refl refl (rw c.deref.ensures at c.take_uses.ensures.ahead) c.take_uses.ensures.rest.0 c.take_uses.ensures.rest.1 c.take_uses.ensures.room
+    refl refl refl refl refl (rw c.deref.ensures at c.take_uses.ensures.ahead) c.take_uses.ensures.values c.take_uses.ensures.room
 
 pub returns-clause-taken : goal.returns-clause-taken
 returns-clause-taken c =
@@ -70,7 +70,7 @@ pub returns-clause-run : goal.returns-clause-run
 returns-clause-run c =
     let h = has c in
     looked_facts c.self.inside.book.value (arc_value c.self.inside.table) c.self.inside.question c.self.inside.live c.self.inside.course (after c) c.self.inside.round c.take_uses.new.self
-    c.args.memo.now.entries c.take_uses.new.memo h.0 (here c) h.1 h.2 h.3 refl c.take_uses.ensures.rest.1
+    c.args.memo.now.entries c.take_uses.new.memo h.0 (here c) h.1 h.2 h.3 refl c.take_uses.ensures.values
     ∙ ap (λ (r : RunFacts). with_taken r (took c) c.args.memo.now.entries) (seen_is c)
 
 pub returns-clause-entries : goal.returns-clause-entries

@@ -71,7 +71,7 @@ both g c =
     refl refl refl refl refl c.work.ensures.known_kept (rw (last_rows g c) at c.work.ensures.known) in
     run_works c.self.inside.book.value (arc_value c.self.inside.table) c.self.inside.question c.self.inside.live c.self.inside.course c.self.inside.round is c.go_on.new.self c.work.new.self
     (rw (last_rows g c) at c.go_on.ensures.course) (rw (last_rows g c) at c.go_on.ensures.ahead) c.go_on.ensures.going (c.go_on.ensures.done ∙ done)
-    c.work.ensures.empty c.work.ensures.room (rw (last_rows g c) at c.work.ensures.fresh)
+    c.work.ensures.places c.work.ensures.rest.0 c.work.ensures.rest.1 c.work.ensures.room (rw (last_rows g c) at c.work.ensures.values)
 
 pub invariant_of-self : goal.invariant_of-self
 invariant_of-self g c = (both g c).0

@@ -1,5 +1,5 @@
 use Rattle.std.proofs.Common.{Contains, take}
-use Rattle.ask_core.proofs.rounds.place_of.Given as goal
+use Rattle.ask_core.proofs.keys.place_of.Given as goal
 
 abbrev pub invariant-loop-place : goal.invariant-loop-place
 invariant-loop-place l = ¬ Contains (take l.place l.keys) l.key
