@@ -1,6 +1,6 @@
 -- What the lines of sessions came to, beside the replies of their transcripts; and what a line came
 -- to whose reply is that a commit was made, or that a question was given up.
-use Rattle.std.proofs.Common.{◌≡◌, ℕ, suc, ◌<◌, ◌≤◌, ◌^◌, Bool, List, [], ◌∷◌, ◌++◌, length, map, drop, codes, decimal, get_or, refl, sym, ap, subst, arith}
+use Rattle.std.proofs.Common.{◌≡◌, ℕ, suc, ◌<◌, ◌≤◌, ◌^◌, Bool, true, false, List, [], ◌∷◌, ◌++◌, length, map, drop, codes, decimal, get_or, refl, sym, ap, subst, arith}
 use Rattle.std.proofs.lemmas.Fmt.{decimal_injective}
 use Rattle.solid_base.specs.declared.entities.Model.{Model}
 use Rattle.solid_base.specs.declared.replies.Reply.{Reply}
@@ -10,7 +10,7 @@ use Rattle.edit_core.specs.Versions.{LogEntry}
 use Rattle.edit_core.proofs.Logs.{few_versions}
 use Rattle.solid_desk.specs.Outcomes.{Outcome, bad_line, staged, committed, refused, answered, cancelled, no_memory, with_version, reply_of, named_version}
 use Rattle.solid_desk.specs.Sessions.{Standing, at_start, standing_after}
-use Rattle.solid_desk.specs.Legal.{IsCancelled, IsAsked, IsEdit, IsOutcome, IsSession, AreSessions, IsLegal}
+use Rattle.solid_desk.specs.Legal.{IsAnswered, IsCancelled, IsAsked, IsEdit, IsOutcome, IsSession, AreSessions, IsLegal}
 use Rattle.solid_desk.proofs.AnswersApart.{no_cancelled}
 use Rattle.solid_desk.proofs.OneReading.{same_version, same_body, one_has_none}
 
@@ -82,6 +82,18 @@ module _ (opening : Model) (log : List LogEntry) (at : Standing) where
   committed_is session version (answered w text) same h = absurd h
   committed_is session version (cancelled w later) same h = absurd h
   committed_is session version no_memory same h = absurd (one_has_none version (codes "COMMITTED") (codes "MEMORY") same)
+
+  -- a question that isn't live was answered by its reply
+  pub answered_is : (q : Question) (version : ℕ) (body : List ℕ) (outcome : Outcome) → with_version version body ≡ reply_of outcome → IsAsked opening log at q false outcome → IsAnswered opening log at q version body
+  answered_is q version body (bad_line f) same h = absurd h
+  answered_is q version body (staged count) same h = absurd h
+  answered_is q version body (committed w) same h = absurd h
+  answered_is q version body (refused w f) same h = absurd h
+  answered_is q version body (answered w text) same h =
+      subst (λ (n : ℕ). IsAnswered opening log at q n body) (sym (same_version version w body text same))
+      (subst (λ (t : List ℕ). IsAnswered opening log at q w t) (sym (same_body (with_version version body) (with_version w text) same)) h)
+  answered_is q version body (cancelled w later) same h = (let may : false ≡ true = h.may in absurd (cc))
+  answered_is q version body no_memory same h = absurd (one_has_none version body (codes "MEMORY") same)
 
   module _ (q : Question) (live : Bool) (version : ℕ) where
     pub given_up_is : (later : ℕ) (outcome : Outcome) → with_version version (codes "CANCELLED " ++ decimal later) ≡ reply_of outcome → IsAsked opening log at q live outcome → IsGivenUp opening log at q live version later outcome

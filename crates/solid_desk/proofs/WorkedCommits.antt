@@ -1,6 +1,6 @@
--- Worked transcripts of commits: for each rule on them and on the log one that isn't lawful, and a
--- commit that is refused.
-use Rattle.std.proofs.Common.{◌≡◌, ◌⊎◌, inl, inr, ℕ, suc, Bool, false, List, [], ◌∷◌, ◌++◌, length, drop, get_or, codes, decimal, Option, Some, None, slice_get, refl, ap, subst, ◌∙◌, arith}
+-- Worked transcripts of commits: some that leave nothing in the log, and for each rule on commits,
+-- staging and the log one that isn't lawful.
+use Rattle.std.proofs.Common.{◌≡◌, ◌⊎◌, inl, inr, ℕ, suc, Bool, false, List, [], ◌∷◌, ◌++◌, length, map, drop, get_or, codes, decimal, Option, Some, None, slice_get, refl, ap, subst, ◌∙◌, arith}
 use Rattle.std.proofs.lemmas.Fmt.{decimal_injective}
 use Rattle.std.proofs.lemmas.List.{length-append}
 use Rattle.solid_base.specs.declared.entities.Model.{Model}
@@ -11,12 +11,13 @@ use Rattle.solid_questions.specs.declared.questions.Question.TheVariants as ques
 use Rattle.script_lines.specs.declared.commands.Command.{Command}
 use Rattle.script_lines.specs.declared.commands.Command.TheVariants as command
 use Rattle.edit_core.specs.declared.changes.Change.TheVariants as change
+use Rattle.edit_core.specs.declared.faults.EditFault.{EditFault}
 use Rattle.edit_core.specs.declared.faults.EditFault.TheVariants as fault
 use Rattle.edit_core.specs.Batches.{Staged, stage}
 use Rattle.edit_core.specs.Versions.{LogEntry, opening_version}
-use Rattle.solid_desk.specs.Outcomes.{Outcome, staged, refused, no_memory, with_version, without_version, reply_of}
+use Rattle.solid_desk.specs.Outcomes.{Outcome, staged, committed, refused, no_memory, with_version, without_version, reply_of}
 use Rattle.solid_desk.specs.Sessions.{Standing, at_start, standing_from, standing_after, staged_unless}
-use Rattle.solid_desk.specs.Legal.{entry_at, IsCommitted, IsEdit, IsStagedCount, IsLegal}
+use Rattle.solid_desk.specs.Legal.{entry_at, IsCommitted, IsEdit, IsStagedCount, IsRefusedCommit, IsSession, IsLegal}
 use Rattle.solid_desk.proofs.CommitsOnce.{logged_once}
 use Rattle.solid_desk.proofs.OpeningOnly.{empty_log}
 use Rattle.solid_desk.proofs.PrintedSessions.{Printed, all_printed, committed_is, names_it}
@@ -34,29 +35,41 @@ entry_of session line batch = record { session = session; line = line; batch = b
 abbrev made_version : ℕ → List Reply
 made_version version = without_version (codes "STAGED " ++ decimal 1) ∷ with_version version (codes "COMMITTED") ∷ []
 
--- ---- a commit that is refused
+-- ---- commits that leave nothing in the log
 
--- nothing is staged: the commit has a fault, and stands nowhere in the log
-pub refused_and_not_logged : (opening : Model) → IsLegal opening ((command.Commit ∷ []) ∷ []) [] ((with_version 0 (codes "REFUSED EmptyBatch") ∷ []) ∷ [])
-refused_and_not_logged opening = record {
-  outcomes = (refused 0 fault.EmptyBatch ∷ []) ∷ [];
-  printed = refl;
-  lawful = record { last = opening; reached = opening_version };
-  replies = (
-    (
-      record {
-        model = opening;
-        shown = record { logged = omega arith; not_older = omega arith; is = opening_version };
-        fault = refl;
-      },
-      tt,
-    ),
-    tt,
-  );
-  entries = record { made = λ place entry h. absurd (none_logged place entry h); in_order = λ first second h. absurd (none_logged h.place first h.first_is) };
-} where
-  none_logged : (place : ℕ) (entry : LogEntry) → slice_get [] place ≡ Some entry → ⊥
-  none_logged place entry h = cc
+none_logged : (place : ℕ) (entry : LogEntry) → slice_get [] place ≡ Some entry → ⊥
+none_logged place entry h = cc
+
+module _ (opening : Model) where
+  -- by an empty log all outcomes of one session are lawful that it may come to
+  by_empty_log : (commands : List Command) (outcomes : List Outcome) → IsSession opening [] 0 at_start commands outcomes → IsLegal opening (commands ∷ []) [] (map reply_of outcomes ∷ [])
+  by_empty_log commands outcomes h = record {
+    outcomes = outcomes ∷ [];
+    printed = refl;
+    lawful = record { last = opening; reached = opening_version };
+    replies = (h, tt);
+    entries = record { made = λ place entry there. absurd (none_logged place entry there); in_order = λ first second there. absurd (none_logged there.place first there.first_is) };
+  }
+
+  empty_batch : (line : ℕ) → IsRefusedCommit opening [] (record { line = line; batch = []; shown = 0 }) 0 fault.EmptyBatch
+  empty_batch line = record {
+    model = opening;
+    shown = record { logged = omega arith; not_older = omega arith; is = opening_version };
+    fault = refl;
+  }
+
+  -- nothing is staged: the commit has its fault
+  pub nothing_staged : IsLegal opening ((command.Commit ∷ []) ∷ []) [] ((with_version 0 (codes "REFUSED EmptyBatch") ∷ []) ∷ [])
+  nothing_staged = by_empty_log (command.Commit ∷ []) (refused 0 fault.EmptyBatch ∷ []) (empty_batch 1, tt)
+
+  -- a commit that lacks memory leaves nothing staged
+  pub emptied_without_memory : (text : RowText) → IsLegal opening ((command.Replace 1 text ∷ command.Commit ∷ command.Commit ∷ []) ∷ []) []
+      ((without_version (codes "STAGED " ++ decimal 1) ∷ without_version (codes "MEMORY") ∷ with_version 0 (codes "REFUSED EmptyBatch") ∷ []) ∷ [])
+  emptied_without_memory text = by_empty_log (command.Replace 1 text ∷ command.Commit ∷ command.Commit ∷ []) (staged 1 ∷ no_memory ∷ refused 0 fault.EmptyBatch ∷ []) (inl refl, (tt, (empty_batch 3, tt)))
+
+  -- a change that lacks memory isn't staged
+  pub not_staged : (text : RowText) → IsLegal opening ((command.Replace 1 text ∷ command.Drop 3 ∷ []) ∷ []) [] ((without_version (codes "MEMORY") ∷ without_version (codes "STAGED " ++ decimal 1) ∷ []) ∷ [])
+  not_staged text = by_empty_log (command.Replace 1 text ∷ command.Drop 3 ∷ []) (no_memory ∷ staged 1 ∷ []) (inr refl, (inl refl, tt))
 
 -- ---- the version that a commit names
 
@@ -154,6 +167,35 @@ module _ (opening : Model) (text other : RowText) (others : List (List Command))
   logged_twice entry legal =
       let both = logged_once opening others (entry ∷ entry ∷ []) transcripts 0 1 entry entry legal refl refl refl refl in
       omega (arith, both)
+
+-- the entry of a commit that was refused
+pub refused_and_logged : (opening : Model) (f : EditFault) (batch : List Staged) → ¬ IsLegal opening ((command.Commit ∷ []) ∷ []) (entry_of 0 1 batch ∷ []) ((reply_of (refused 0 f) ∷ []) ∷ [])
+refused_and_logged opening f batch legal =
+    let made = legal.entries.made 0 (entry_of 0 1 batch) refl in
+    first_line made.commands made.replies made.rest made.others made.line_of made.one_each made.reply_to where
+      versions : List Reply → List (Option ℕ)
+      versions [] = []
+      versions (reply ∷ replies) = reply.version ∷ []
+
+      first_versions : List (List Reply) → List (Option ℕ)
+      first_versions [] = []
+      first_versions (replies ∷ transcripts) = versions replies
+
+      came_to : (outcomes : List (List Outcome)) (others : List Outcome) → (reply_of (refused 0 f) ∷ []) ∷ [] ≡ map (map reply_of) outcomes → slice_get outcomes 0 ≡ Some (committed 1 ∷ others) → ⊥
+      came_to [] others same at = cc
+      came_to (first ∷ rest) others same at =
+          let is : first ≡ committed 1 ∷ others = cc in
+          let named = subst (λ (one : List Outcome). Some 0 ∷ [] ≡ versions (map reply_of one)) is (ap (λ (t : List (List Reply)). first_versions t) same) in
+          cc
+
+      first_line : (commands : List Command) (replies : List Outcome) (rest : List Command) (others : List Outcome) → ◌≡◌ {A = Option (List Command)} (Some (command.Commit ∷ [])) (Some (commands ++ command.Commit ∷ rest))
+          → length commands ≡ length replies → slice_get legal.outcomes 0 ≡ Some (replies ++ committed 1 ∷ others) → ⊥
+      first_line [] [] rest others line one reply = came_to legal.outcomes others legal.printed reply
+      first_line [] (a ∷ replies) rest others line one reply = absurd (omega (arith, one))
+      first_line (c ∷ commands) replies rest others line one reply =
+          let same : command.Commit ∷ [] ≡ c ∷ (commands ++ command.Commit ∷ rest) = cc in
+          let size = ap (λ (l : List Command). length l) same in
+          omega (arith, size, length-append commands (command.Commit ∷ rest))
 
 -- an entry, and no commit
 pub made_by_none : (opening : Model) (transcripts : List (List Reply)) (entry : LogEntry) → ¬ IsLegal opening ((command.Ask question.Newest false ∷ []) ∷ []) (entry ∷ []) transcripts
