@@ -48,18 +48,22 @@ def write_input(path, operands, points, volume):
                 sink.write("@%d point %d %s\n" % (session, tree, at))
 
 
-def processor_seconds(process):
-    """The processor time of each thread that there is, by its number."""
-    folder = "/proc/%d/task" % process.pid
-    times = {}
+def processor_seconds(path):
+    """The processor time of a thread, or None where it has just ended."""
     try:
-        for thread in os.listdir(folder):
-            with open("%s/%s/schedstat" % (folder, thread)) as stat:
-                times[int(thread)] = int(stat.read().split()[0]) / 1e9
+        with open(path) as stat:
+            return int(stat.read().split()[0]) / 1e9
     except (OSError, IndexError):
-        # A thread, or the whole program, has just ended.
-        pass
-    return times
+        return None
+
+
+def look(process, now, threads):
+    """Takes down what each thread of the program has used by now."""
+    folder = "/proc/%d/task" % process.pid
+    for thread in os.listdir(folder):
+        used = processor_seconds("%s/%s/schedstat" % (folder, thread))
+        if used is not None:
+            threads.setdefault(thread, Thread()).saw(now, used)
 
 
 def watch(program, data, output):
@@ -69,12 +73,12 @@ def watch(program, data, output):
         start = time.monotonic()
         process = subprocess.Popen([program, "serve"], stdin=source, stdout=sink)
         while process.poll() is None:
-            now = time.monotonic() - start
-            for thread, used in processor_seconds(process).items():
-                threads.setdefault(thread, Thread()).saw(now, used)
+            look(process, time.monotonic() - start, threads)
             time.sleep(INTERVAL)
     if process.returncode != 0:
         sys.exit("serve ended with status %d" % process.returncode)
+    if not threads:
+        sys.exit("this system doesn't tell the processor time of threads")
     return list(threads.values()), time.monotonic() - start
 
 
