@@ -35,7 +35,7 @@ PROGRAM = """\
 #![tactic(auto)]
 
 use fixed_enclosure::{Box3, Enc};
-use memo_graph::{HashedKey, Key, Memo};
+use memo_graph::{HashedKey, Memo};
 use solid_base::{Class, Verdict};
 use std::alloc::{AllocError, Global};
 use std::env;
@@ -52,17 +52,14 @@ fn span(middle: i64) -> Enc {
 }
 
 // A key by its number: boxes that stand side by side, over 64 entities.
-fn key(number: u32) -> Key {
+fn key(number: u32) -> HashedKey {
     let (place, entity) = (number >> 6, number & 63);
-    Key {
-        de: 2 * entity + 1,
-        stamp: 3,
-        at: Box3 {
-            x: span((place & 255) as i64),
-            y: span((place >> 8 & 255) as i64 - 128),
-            z: span((place >> 16) as i64 * 10_000_000),
-        },
-    }
+    let at = Box3 {
+        x: span((place & 255) as i64),
+        y: span((place >> 8 & 255) as i64 - 128),
+        z: span((place >> 16) as i64 * 10_000_000),
+    };
+    HashedKey::new(2 * entity + 1, 3, &at)
 }
 
 fn verdict(number: u32) -> Verdict {
@@ -74,7 +71,7 @@ fn verdict(number: u32) -> Verdict {
 
 // A look, and a fill where the key isn't held. Answers the leaf of the verdict.
 fn answer(memo: &mut Memo, number: u32) -> Result<u32, AllocError> {
-    let key = HashedKey::of(key(number));
+    let key = key(number);
     if let Some(found) = memo.look(&key) {
         return Ok(found.leaf);
     }

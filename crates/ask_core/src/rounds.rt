@@ -20,7 +20,7 @@ ghost use Rattle.ask_core.specs.Rounds.{IsEmpty};
 use crate::course::Ahead;
 use crate::keys::Keys;
 use edit_core::Table;
-use memo_graph::{HashedKey, Key, Memo};
+use memo_graph::{HashedKey, Memo};
 use solid_base::{Ledger, Rows, Stack, Verdict, Verdicts};
 use solid_eval::primitive_verdict;
 use std::alloc::{AllocError, Global};
@@ -140,15 +140,14 @@ impl Round {
         ensures primitives { AllByRecursion (λ u. IsPrimitiveRow
             (row_at table.now.model.rows u.number)) (uses_ahead table.now.model.rows ahead.new) }
     {
-        let Some((de, at)) = ahead.next else {
+        let Some((de, at)) = &ahead.next else {
             return false;
         };
         if self.places.len() == MOST_USES {
             return false;
         }
         table.obeys();
-        let stamp = table.stamp(de);
-        let key = HashedKey::of(Key { de, stamp, at });
+        let key = HashedKey::new(*de, table.stamp(*de), at);
         let taken = self.take(&key, memo);
         if taken {
             ahead.pass(table.rows());

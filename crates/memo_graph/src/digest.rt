@@ -3,16 +3,15 @@
 ghost use Rattle.std.specs.Prelude.{◌≡◌};
 ghost use Rattle.memo_graph.specs.Digests.{key_digest, box_digest, ends_digest, low_word, folded};
 
-use crate::key::Key;
 use fixed_enclosure::{Box3, Enc};
 
-// One number for a key.
+// One number for a key, by its parts.
 #[tactic(auto, unfolding(crate::specs::Digests::key_digest))]
-pub(crate) fn of_key(key: &Key) -> u64
-    ensures { result ≡ key_digest key.now }
+pub(crate) fn of_key(de: u32, stamp: u64, at: &Box3) -> u64
+    ensures { result ≡ key_digest (record { de = de; stamp = stamp; at = at.now }) }
 {
-    let entity = key.de as u64 ^ 0x1319_8a2e_0370_7344;
-    folded(entity, key.stamp ^ 0xa409_3822_299f_31d0) ^ of_box(&key.at)
+    let entity = de as u64 ^ 0x1319_8a2e_0370_7344;
+    folded(entity, stamp ^ 0xa409_3822_299f_31d0) ^ of_box(at)
 }
 
 // One number for a box: each coordinate has numbers of its own.

@@ -8,6 +8,7 @@ ghost use Rattle.memo_graph.specs.KeyLaws.{same_key_exact, same_key_equiv};
 
 use crate::digest::of_key;
 use crate::key::Key;
+use fixed_enclosure::Box3;
 use std::hash::{Hash, Hasher};
 use std::marker::Model;
 
@@ -37,13 +38,13 @@ impl Model for HashedKey {
 }
 
 impl HashedKey {
-    /// The key with its digest.
-    pub fn of(key: Key) -> HashedKey
-        ensures { result ≡ key }
+    /// The key of an entity's number, its stamp and a box, with its digest.
+    pub fn new(de: u32, stamp: u64, at: &Box3) -> HashedKey
+        ensures { result ≡ record { de = de; stamp = stamp; at = at.now } }
     {
         HashedKey {
-            digest: of_key(&key),
-            key,
+            digest: of_key(de, stamp, at),
+            key: Key { de, stamp, at: *at },
         }
     }
 

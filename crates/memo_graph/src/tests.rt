@@ -1,24 +1,20 @@
 //! Small memos, by tables of looks and fills.
-use crate::{HashedKey, Key, Memo};
+use crate::{HashedKey, Memo};
 use fixed_enclosure::{Box3, Enc};
 use solid_base::{Class, Verdict};
 use std::test::*;
 
-fn parts(de: u32, stamp: u64, at: i128) -> Key {
+fn point(at: i128) -> Box3 {
     let enc = Enc::Span { lo: at, hi: at };
-    Key {
-        de,
-        stamp,
-        at: Box3 {
-            x: enc,
-            y: enc,
-            z: enc,
-        },
+    Box3 {
+        x: enc,
+        y: enc,
+        z: enc,
     }
 }
 
 fn key(de: u32, stamp: u64, at: i128) -> HashedKey {
-    HashedKey::of(parts(de, stamp, at))
+    HashedKey::new(de, stamp, &point(at))
 }
 
 fn mixed(leaf: u32) -> Verdict {
@@ -37,12 +33,11 @@ fn a_key_is_its_entity_its_stamp_and_its_box(rt: HostRuntime) -> Result<(), Fail
     for other in others.iter() {
         assert_eq!(rt; memo.look(other), None);
     }
-    let at = parts(1, 0, 5).at;
-    let half_open = Box3 { z: Enc::All, ..at };
-    let open = HashedKey::of(Key {
-        at: half_open,
-        ..*key(1, 0, 5).key()
-    });
+    let half_open = Box3 {
+        z: Enc::All,
+        ..point(5)
+    };
+    let open = HashedKey::new(1, 0, &half_open);
     assert!(rt; open == open && open != key(1, 0, 5));
     assert_eq!(rt; memo.look(&open), None);
     memo.fill(&open, mixed(7))?;

@@ -105,3 +105,14 @@ pub record IsOpened (rows : List Entity) (e : ℕ) (before : Box3) (l : Level) :
   pub number : l.e ≡ e
   pub all : uses (solid_of rows e) (spans_of before) ≡ level_uses rows l
   pub at : IsBox l.at
+
+-- solidd's own: through an entity's matrix its uses are those of a level before its first part
+abbrev pub OpensThrough : List Entity → ℕ → ℕ → Type 0
+OpensThrough rows e matrix = (before : Box3) (l : Level) → l.e ≡ e → l.index ≡ 0 → IsBox l.at
+    → spans_of l.at ≡ spans_through (chain_of rows matrix) (spans_of before)
+    → IsOpened rows e before l
+
+-- an entity is its own one use
+abbrev pub IsOneUse : List Entity → ℕ → Type 0
+IsOneUse rows e = (before : Box3) →
+    uses (solid_of rows e) (spans_of before) ≡ record { number = e; spans = spans_of before } ∷ []

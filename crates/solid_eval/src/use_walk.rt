@@ -11,7 +11,8 @@ ghost use Rattle.affine_pull.specs.Chains.{chain_of, spans_through};
 ghost use Rattle.entity_graph.specs.Opaque.{ReachesOpaque};
 ghost use Rattle.solid_eval.specs.Solids.{solid_of, IsSolidRow};
 ghost use Rattle.solid_eval.specs.Uses.{uses};
-ghost use Rattle.solid_eval.specs.Walking.{levels_uses, uses_left, IsStack, IsWalk, IsOpened};
+ghost use Rattle.solid_eval.specs.Walking.{levels_uses, uses_left, IsStack, IsWalk};
+ghost use Rattle.solid_eval.specs.Walking.{IsOneUse, OpensThrough};
 
 use crate::level_stack::{Level, Levels};
 use crate::parts::part_from;
@@ -101,10 +102,10 @@ fn first_use(rows: &Rows, e: u32, at: &Box3, levels: &mut Levels) -> (u32, Box3)
     ensures at { IsBox result.1 }
     ensures stack { IsStack rows.now levels.new }
 {
-    let mut level = match level_of(rows, e, at) {
-        Some(level) => level,
-        None => return (e, *at),
+    let Some(matrix) = level_matrix(rows, e) else {
+        return (e, *at);
     };
+    let mut level = opened(rows, e, matrix, at);
     match part_from(rows, &level) {
         Some(part) => {
             let at = pull_chain(rows, part.matrix, &level.at);
@@ -116,20 +117,18 @@ fn first_use(rows: &Rows, e: u32, at: &Box3, levels: &mut Levels) -> (u32, Box3)
     }
 }
 
-// The level of a tree, an assembly or an instance of which all uses are left. None for a primitive.
-fn level_of(rows: &Rows, e: u32, at: &Box3) -> Option<Level>
+// The matrix of a tree, an assembly or an instance. None for a primitive.
+fn level_matrix(rows: &Rows, e: u32) -> Option<u32>
     requires rows { AllByRecursion (λ e. IsLawfulRow e.row) rows.now }
     requires sound { AreSound rows.now }
-    requires at { IsBox at.now }
     requires read { (n : ℕ) → ¬ ReachesOpaque rows.now e n }
     requires weighs { 1 ≤ weight_of rows.now e }
-    ensures { MatchOption result (uses (solid_of rows.now e) (spans_of at.now) ≡
-        record { number = e; spans = spans_of at.now } ∷ []) (IsOpened rows.now e at.now) }
+    ensures { MatchOption result (IsOneUse rows.now e) (OpensThrough rows.now e) }
 {
     match rows.row(e) {
-        Some(Row::Tree { matrix, .. }) => Some(opened(rows, e, *matrix, at)),
-        Some(Row::Assembly { matrix, .. }) => Some(opened(rows, e, *matrix, at)),
-        Some(Row::Instance { matrix, .. }) => Some(opened(rows, e, *matrix, at)),
+        Some(Row::Tree { matrix, .. }) => Some(*matrix),
+        Some(Row::Assembly { matrix, .. }) => Some(*matrix),
+        Some(Row::Instance { matrix, .. }) => Some(*matrix),
         None | Some(Row::Null | Row::Opaque { .. } | Row::Matrix { .. } | Row::Prim { .. }) => None,
     }
 }

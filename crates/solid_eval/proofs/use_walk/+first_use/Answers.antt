@@ -15,9 +15,9 @@ first_use-requires t c =
     let room = has_room rows c.requires.sound below c.args.e c.requires.stack c.requires.deep in
     let list = c.push.ensures.list in
     let spare = c.push.ensures.spare in
-    let level = opened_level rows c.args.e (length below.list) c.args.at.now c.in-Some.level c.in-Some.ensures c.requires.deep c.requires.read in
-    let taken = part_taken rows below c.push.new.self c.in-Some.level part c.requires.stack level h list spare in
-    let same : depth_of rows c.in-Some.level.e ≡ depth_of rows c.args.e = ap (depth_of rows) c.in-Some.ensures.number in
+    let level = opened_level rows c.args.e (length below.list) c.args.at.now c.opened-level.result (c.in-Some.ensures c.args.at.now c.opened-level.result c.opened-level.ensures.number c.opened-level.ensures.index c.opened-level.ensures.at c.opened-level.ensures.spans) c.requires.deep c.requires.read in
+    let taken = part_taken rows below c.push.new.self c.opened-level.result part c.requires.stack level h list spare in
+    let same : depth_of rows c.opened-level.result.e ≡ depth_of rows c.args.e = ap (depth_of rows) (c.in-Some.ensures c.args.at.now c.opened-level.result c.opened-level.ensures.number c.opened-level.ensures.index c.opened-level.ensures.at c.opened-level.ensures.spans).number in
     let less : depth_of rows part.number < depth_of rows c.args.e = omega (arith, h.less, same) in
     let stack : IsStack rows c.push.new.self = taken.0 in
     let deep : depth_of rows part.number + length c.push.new.self.list ≤ most_levels = taken.1 in
@@ -30,9 +30,9 @@ returns-in-Some-part_from-clause-first t c =
     let rows = c.args.rows.now in
     let below = c.args.levels.now in
     let list = c.push.ensures.list in
-    ap (λ u. u ++ levels_uses rows below.list) c.in-Some.ensures.all
-    ∙ left_below rows below c.push.new.self c.in-Some.level c.in-Some-part_from.part c.pull_chain-at.result _ c.in-Some-part_from.ensures list c.pull_chain-at.ensures.value c.first_use.ensures.first
+    ap (λ u. u ++ levels_uses rows below.list) (c.in-Some.ensures c.args.at.now c.opened-level.result c.opened-level.ensures.number c.opened-level.ensures.index c.opened-level.ensures.at c.opened-level.ensures.spans).all
+    ∙ left_below rows below c.push.new.self c.opened-level.result c.in-Some-part_from.part c.pull_chain-at.result _ c.in-Some-part_from.ensures list c.pull_chain-at.ensures.value c.first_use.ensures.first
 
-pub returns-in-None-part_from-clause-first : goal.returns-in-None-part_from-clause-first
-returns-in-None-part_from-clause-first t c =
-    absurd (some_left c.args.rows.now c.requires.rows c.args.e (spans_of c.args.at.now) c.requires.read c.requires.weighs (c.in-Some.ensures.all ∙ c.in-None-part_from.ensures))
+pub returns-in-None-clause-first : goal.returns-in-None-clause-first
+returns-in-None-clause-first t c =
+    absurd (some_left c.args.rows.now c.requires.rows c.args.e (spans_of c.args.at.now) c.requires.read c.requires.weighs ((c.in-Some.ensures c.args.at.now c.opened-level.result c.opened-level.ensures.number c.opened-level.ensures.index c.opened-level.ensures.at c.opened-level.ensures.spans).all ∙ c.in-None.ensures))
