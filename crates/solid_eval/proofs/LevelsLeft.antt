@@ -1,5 +1,5 @@
 -- What is left on levels when one is pushed, moved on or taken off.
-use Rattle.std.proofs.Common.{◌≡◌, ℕ, suc, ◌+◌, ◌-◌, slice_index_or, slice_set, ◌≤◌, ◌<◌, List, [], ◌∷◌, ◌++◌, length, refl, sym, ap, ◌∙◌, subst, arith, append_assoc, append-nil}
+use Rattle.std.proofs.Common.{◌≡◌, ℕ, suc, ◌+◌, ◌-◌, slice_index_or, slice_set, ◌≤◌, ◌<◌, List, [], ◌∷◌, ◌++◌, Some, None, MatchOption, length, refl, sym, ap, ◌∙◌, subst, arith, append_assoc, append-nil}
 use Rattle.std.specs.List.{AllByRecursion}
 use Rattle.std.proofs.lemmas.List.{length-append}
 use Rattle.std.proofs.Math.Seq.{get_or-append_seam, set-append_seam}
@@ -7,8 +7,10 @@ use Rattle.solid_base.specs.declared.entities.Entity.{Entity}
 use Rattle.solid_base.specs.Stack.{Stack}
 use Rattle.solid_base.specs.Graph.{most_levels, depth_of, weight_of, AreSound}
 use Rattle.solid_base.specs.Ranges.{IsLawfulRow}
+use Rattle.solid_base.specs.References.{row_at}
 use Rattle.fixed_enclosure.specs.declared.enclosures.Box3.{Box3}
 use Rattle.fixed_enclosure.specs.Places.{Span3, spans_of}
+use Rattle.affine_pull.specs.Chains.{chain_of, spans_through}
 use Rattle.entity_graph.specs.Opaque.{ReachesOpaque}
 use Rattle.entity_graph.proofs.Levels.{no_levels}
 use Rattle.solid_eval.specs.declared.level_stack.Level.{Level}
@@ -16,8 +18,9 @@ use Rattle.solid_eval.specs.declared.parts.Part.{Part}
 use Rattle.solid_eval.specs.LevelStack.{outer}
 use Rattle.solid_eval.specs.Solids.{solid_of}
 use Rattle.solid_eval.specs.Uses.{Use, uses}
-use Rattle.solid_eval.specs.Walking.{part_spans, level_uses, levels_uses, IsLevel, AreLevels, IsStack, IsPart, IsOpened}
+use Rattle.solid_eval.specs.Walking.{part_spans, uses_from, level_uses, levels_uses, IsLevel, AreLevels, IsStack, IsPart, own_matrix}
 use Rattle.solid_eval.proofs.FromUses.{uses_counted}
+use Rattle.solid_eval.proofs.NextParts.{IsUsedItself, IsOpenedBy, own_uses}
 use Rattle.solid_eval.proofs.Uses.{count_exact}
 
 -- the place in the innermost level is set
@@ -88,15 +91,18 @@ module _ (rows : List Entity) where
       ap (λ u. u ++ before) h.first ∙ append_assoc first (level_uses rows (after_part l part)) before ∙ ap (λ u. first ++ u) (sym pushed_left)
       ∙ ap (λ s. uses (solid_of rows part.number) s ++ levels_uses rows pushed.list) (sym placed) ∙ found
 
-  opened_reads : (e n : ℕ) → n ≡ e → ((k : ℕ) → ¬ ReachesOpaque rows e k) → (k : ℕ) → ¬ ReachesOpaque rows n k
-  opened_reads e n is reads = subst (λ m. (k : ℕ) → ¬ ReachesOpaque rows m k) (sym is) reads
+  -- the uses of an entity are those left on a level of its own that no part was taken from
+  pub opened_left : (e matrix : ℕ) (at back : Box3) → AllByRecursion (λ (e : Entity). IsLawfulRow e.row) rows → AreSound rows → ((k : ℕ) → ¬ ReachesOpaque rows e k) → 1 ≤ weight_of rows e
+      → Some matrix ≡ own_matrix (row_at rows e) → spans_of back ≡ spans_through (chain_of rows matrix) (spans_of at) → uses (solid_of rows e) (spans_of at) ≡ level_uses rows (record { e = e; at = back; index = 0 })
+  opened_left e matrix at back lawful sound reads weighs is pulled =
+      let opened : IsOpenedBy rows e matrix = subst (λ m. MatchOption m (IsUsedItself rows e) (IsOpenedBy rows e)) (sym is) (own_uses rows lawful sound e (row_at rows e) reads weighs refl) in
+      opened (spans_of at) ∙ ap (uses_from rows (row_at rows e) 0) (sym pulled)
 
-  pub opened_level : (e n : ℕ) (at : Box3) (l : Level) → IsOpened rows e at l → depth_of rows e + n ≤ most_levels → ((k : ℕ) → ¬ ReachesOpaque rows e k) → IsLevel rows n l
-  opened_level e n at l h deep reads = record {
-    at = h.at;
-    deep = let same : depth_of rows l.e ≡ depth_of rows e = ap (depth_of rows) h.number in omega (arith, same, deep);
-    reads = opened_reads e l.e h.number reads;
-  }
+  pub itself_left : (e : ℕ) (s : Span3) → AllByRecursion (λ (e : Entity). IsLawfulRow e.row) rows → AreSound rows → ((k : ℕ) → ¬ ReachesOpaque rows e k) → 1 ≤ weight_of rows e
+      → None ≡ own_matrix (row_at rows e) → uses (solid_of rows e) s ≡ record { number = e; spans = s } ∷ []
+  itself_left e s lawful sound reads weighs is =
+      let used : IsUsedItself rows e = subst (λ m. MatchOption m (IsUsedItself rows e) (IsOpenedBy rows e)) (sym is) (own_uses rows lawful sound e (row_at rows e) reads weighs refl) in
+      used s
 
   -- an entity that weighs something has a use
   pub some_left : AllByRecursion (λ (e : Entity). IsLawfulRow e.row) rows → (e : ℕ) (s : Span3) → ((k : ℕ) → ¬ ReachesOpaque rows e k) → 1 ≤ weight_of rows e → uses (solid_of rows e) s ≡ [] → ⊥

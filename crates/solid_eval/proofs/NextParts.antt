@@ -1,20 +1,17 @@
 -- The next part of a level, and the level of an entity of which all uses are left.
-use Rattle.std.proofs.Common.{◌≡◌, ℕ, zero, suc, ◌≤◌, ◌<◌, List, [], ◌∷◌, ◌++◌, map, drop, flat_map, refl, sym, ap, ◌∙◌, subst, arith, append-nil}
+use Rattle.std.proofs.Common.{◌≡◌, ℕ, zero, suc, ◌≤◌, ◌<◌, List, [], ◌∷◌, ◌++◌, MatchOption, map, drop, flat_map, refl, sym, ap, ◌∙◌, subst, arith, append-nil}
 use Rattle.std.specs.List.{AllByRecursion}
 use Rattle.solid_base.specs.declared.entities.Entity.{Entity}
 use Rattle.solid_base.specs.declared.references.Reference.TheVariants as reference
 use Rattle.solid_base.specs.declared.solids.Item.{Item}
 use Rattle.solid_base.specs.declared.solids.Item.TheVariants as item
 use Rattle.solid_base.specs.declared.solids.Placed.{Placed}
-use Rattle.solid_base.specs.declared.solids.Primitive.{Primitive}
 use Rattle.solid_base.specs.declared.solids.Row.{Row}
 use Rattle.solid_base.specs.declared.solids.Row.TheVariants as row
 use Rattle.solid_base.specs.Graph.{depth_of, row_weight, weight_of, AreSound}
 use Rattle.solid_base.specs.Ranges.{IsLawfulRow}
-use Rattle.solid_base.specs.References.{target, operands_of, items_of, row_at}
-use Rattle.fixed_enclosure.specs.declared.enclosures.Box3.{Box3}
+use Rattle.solid_base.specs.References.{here, target, operands_of, items_of, row_at}
 use Rattle.fixed_enclosure.specs.Places.{Span3, spans_of}
-use Rattle.fixed_enclosure.specs.Spans.{IsBox}
 use Rattle.affine_pull.specs.Chains.{chain_of, spans_through}
 use Rattle.affine_pull.proofs.LawfulChains.{lawful-row}
 use Rattle.affine_pull.proofs.Levels.{chain-none}
@@ -23,7 +20,7 @@ use Rattle.entity_graph.proofs.Levels.{no_levels}
 use Rattle.solid_eval.specs.declared.level_stack.Level.{Level}
 use Rattle.solid_eval.specs.Solids.{solid_of, IsSolidRow}
 use Rattle.solid_eval.specs.Uses.{Use, uses}
-use Rattle.solid_eval.specs.Walking.{uses_from, level_uses, IsPart, IsOpened}
+use Rattle.solid_eval.specs.Walking.{uses_from, level_uses, IsPart, own_matrix}
 use Rattle.solid_eval.proofs.Heavy.{operands_weigh, items_weigh, row_weighs, solid_weighs}
 use Rattle.solid_eval.proofs.PartsUses.{operand_uses, items_uses, item_uses, united_uses, row_uses}
 use Rattle.solid_eval.proofs.PassedParts.{IsBelow, operands_below, items_below, child_below}
@@ -51,6 +48,19 @@ after_child f zero n some = absurd (omega (arith, some))
 after_child f (suc zero) n some = refl
 after_child f (suc (suc k)) n some = refl
 
+-- no matrix carries no place
+pub unmoved : (rows : List Entity) (l : Level) (matrix : ℕ) → matrix ≡ 0 → spans_of l.at ≡ spans_through (chain_of rows matrix) (spans_of l.at)
+unmoved rows l matrix none =
+    ap (λ chain. spans_through chain (spans_of l.at)) (sym (chain-none rows) ∙ ap (chain_of rows) (sym none))
+
+-- an entity is the one use of itself
+abbrev pub IsUsedItself : List Entity → ℕ → Type 0
+IsUsedItself rows e = (s : Span3) → uses (solid_of rows e) s ≡ record { number = e; spans = s } ∷ []
+
+-- the uses of an entity are those of its operands, items or child, over the spans after a matrix
+abbrev pub IsOpenedBy : List Entity → ℕ → ℕ → Type 0
+IsOpenedBy rows e matrix = (s : Span3) → uses (solid_of rows e) s ≡ uses_from rows (row_at rows e) 0 (spans_through (chain_of rows matrix) s)
+
 module _ (rows : List Entity) (lawful : AllByRecursion (λ (e : Entity). IsLawfulRow e.row) rows) (sound : AreSound rows) where
   -- ---- the next part
   module _ (l : Level) (reads : (k : ℕ) → ¬ ReachesOpaque rows l.e k) where
@@ -63,10 +73,6 @@ module _ (rows : List Entity) (lawful : AllByRecursion (λ (e : Entity). IsLawfu
     on_level : (r : Row) (k : ℕ) → row_at rows l.e ≡ r → uses_from rows (row_at rows l.e) k (spans_of l.at) ≡ uses_from rows r k (spans_of l.at)
     on_level r k is = ap (λ r. uses_from rows r k (spans_of l.at)) is
 
-    -- no matrix carries no place
-    not_moved : spans_of l.at ≡ spans_through (chain_of rows 0) (spans_of l.at)
-    not_moved = ap (λ chain. spans_through chain (spans_of l.at)) (sym (chain-none rows))
-
     pub operand_next : (items : List Item) (matrix n next : ℕ) → row_at rows l.e ≡ row.Tree items matrix → operands_of (drop l.index items) ≡ reference.Solid n ∷ operands_of (drop next items)
         → IsPart rows l (record { number = n; matrix = 0; next = next })
     operand_next items matrix n next is stands =
@@ -76,7 +82,7 @@ module _ (rows : List Entity) (lawful : AllByRecursion (λ (e : Entity). IsLawfu
         let heavy = (subst (λ os. AllByRecursion (λ c. 1 ≤ weight_of rows c) (map target os)) stands
         (later_operands (λ c. 1 ≤ weight_of rows c) l.index items (operands_weigh rows lawful sound l.e matrix items is))).0 in
         record {
-          first = on_level (row.Tree items matrix) l.index is ∙ ap (λ os. flat_map f (map target os)) stands ∙ ap (λ s. uses (solid_of rows n) s ++ flat_map f (map target (operands_of (drop next items)))) not_moved
+          first = on_level (row.Tree items matrix) l.index is ∙ ap (λ os. flat_map f (map target os)) stands ∙ ap (λ s. uses (solid_of rows n) s ++ flat_map f (map target (operands_of (drop next items)))) (unmoved rows l 0 refl)
               ∙ ap (λ us. uses (solid_of rows n) (spans_through (chain_of rows 0) (spans_of l.at)) ++ us) (sym (on_level (row.Tree items matrix) next is));
           less = less_deep n below;
           reads = below.reads;
@@ -112,7 +118,7 @@ module _ (rows : List Entity) (lawful : AllByRecursion (λ (e : Entity). IsLawfu
         let heavy = solid_weighs rows lawful sound l.e (subst IsSolidRow (sym is) tt) in
         let below = child_below rows lawful sound l.e (depth_of rows l.e) (omega arith) reads n matrix is in
         record {
-          first = on_level (row.Instance n matrix) l.index is ∙ ap (λ k. flat_map f (drop k (n ∷ []))) none ∙ ap (λ s. uses (solid_of rows n) s ++ []) not_moved
+          first = on_level (row.Instance n matrix) l.index is ∙ ap (λ k. flat_map f (drop k (n ∷ []))) none ∙ ap (λ s. uses (solid_of rows n) s ++ []) (unmoved rows l 0 refl)
               ∙ ap (λ us. uses (solid_of rows n) (spans_through (chain_of rows 0) (spans_of l.at)) ++ us) (sym (on_level (row.Instance n matrix) 1 is));
           less = less_deep n below;
           reads = below.reads;
@@ -123,48 +129,38 @@ module _ (rows : List Entity) (lawful : AllByRecursion (λ (e : Entity). IsLawfu
     child_ended n matrix is past =
         on_level (row.Instance n matrix) l.index is ∙ after_child (operand_uses (solid_of rows) (spans_of l.at)) l.index n past
 
-  -- ---- all parts
-  module _ (e : ℕ) (at : Box3) (l : Level) (number : l.e ≡ e) (index : l.index ≡ 0) (box : IsBox l.at) where
-    same_uses : (r : Row) → row_at rows e ≡ r → uses_from rows r 0 (spans_of l.at) ≡ level_uses rows l
-    same_uses r is =
-        let same : row_at rows l.e ≡ r = ap (row_at rows) number ∙ is in
-        sym (ap (λ r. uses_from rows r l.index (spans_of l.at)) same ∙ ap (λ k. uses_from rows r k (spans_of l.at)) index)
+  -- ---- all uses of an entity
+  tree_opened : (e : ℕ) (items : List Item) (matrix : ℕ) → row_at rows e ≡ row.Tree items matrix → IsOpenedBy rows e matrix
+  tree_opened e items matrix is s =
+      let lawfully = subst IsLawfulRow is (lawful-row rows e lawful) in
+      let back = spans_through (chain_of rows matrix) s in
+      row_uses rows e (row.Tree items matrix) s sound is
+      ∙ items_uses (solid_of rows) items back lawfully.2
+      ∙ sym (ap (λ r. uses_from rows r 0 back) is)
 
-    pub tree_opened : (items : List Item) (matrix : ℕ) → row_at rows e ≡ row.Tree items matrix → spans_of l.at ≡ spans_through (chain_of rows matrix) (spans_of at) → IsOpened rows e at l
-    tree_opened items matrix is pulled =
-        let lawfully = subst IsLawfulRow is (lawful-row rows e lawful) in
-        record {
-          number = number;
-          all = row_uses rows e (row.Tree items matrix) (spans_of at) sound is
-              ∙ items_uses (solid_of rows) items (spans_through (chain_of rows matrix) (spans_of at)) lawfully.2
-              ∙ ap (λ s. flat_map (operand_uses (solid_of rows) s) (map target (operands_of items))) (sym pulled)
-              ∙ same_uses (row.Tree items matrix) is;
-          at = box;
-        }
+  assembly_opened : (e : ℕ) (items : List Placed) (matrix : ℕ) → row_at rows e ≡ row.Assembly items matrix → IsOpenedBy rows e matrix
+  assembly_opened e items matrix is s =
+      let back = spans_through (chain_of rows matrix) s in
+      row_uses rows e (row.Assembly items matrix) s sound is
+      ∙ united_uses (solid_of rows) (chain_of rows) items back
+      ∙ sym (ap (λ r. uses_from rows r 0 back) is)
 
-    pub assembly_opened : (items : List Placed) (matrix : ℕ) → row_at rows e ≡ row.Assembly items matrix → spans_of l.at ≡ spans_through (chain_of rows matrix) (spans_of at) → IsOpened rows e at l
-    assembly_opened items matrix is pulled = record {
-      number = number;
-      all = row_uses rows e (row.Assembly items matrix) (spans_of at) sound is
-          ∙ united_uses (solid_of rows) (chain_of rows) items (spans_through (chain_of rows matrix) (spans_of at))
-          ∙ ap (λ s. flat_map (item_uses (solid_of rows) (chain_of rows) s) items) (sym pulled)
-          ∙ same_uses (row.Assembly items matrix) is;
-      at = box;
-    }
-
-    pub instance_opened : (n matrix : ℕ) → row_at rows e ≡ row.Instance n matrix → spans_of l.at ≡ spans_through (chain_of rows matrix) (spans_of at) → IsOpened rows e at l
-    instance_opened n matrix is pulled = record {
-      number = number;
-      all = row_uses rows e (row.Instance n matrix) (spans_of at) sound is
-          ∙ ap (uses (solid_of rows n)) (sym pulled)
-          ∙ sym (append-nil (uses (solid_of rows n) (spans_of l.at)))
-          ∙ same_uses (row.Instance n matrix) is;
-      at = box;
-    }
-
-  pub primitive_uses : (e matrix : ℕ) (p : Primitive) (s : Span3) → row_at rows e ≡ row.Prim p matrix → uses (solid_of rows e) s ≡ record { number = e; spans = s } ∷ []
-  primitive_uses e matrix p s is = row_uses rows e (row.Prim p matrix) s sound is
+  instance_opened : (e n matrix : ℕ) → row_at rows e ≡ row.Instance n matrix → IsOpenedBy rows e matrix
+  instance_opened e n matrix is s =
+      let back = spans_through (chain_of rows matrix) s in
+      row_uses rows e (row.Instance n matrix) s sound is
+      ∙ sym (append-nil (uses (solid_of rows n) back))
+      ∙ sym (ap (λ r. uses_from rows r 0 back) is)
 
   -- what is no solid and isn't unread weighs nothing
-  pub weightless : (e : ℕ) (r : Row) → row_at rows e ≡ r → row_weight (weight_of rows) r ≡ 0 → 1 ≤ weight_of rows e → ⊥
+  weightless : (e : ℕ) (r : Row) → row_at rows e ≡ r → row_weight (weight_of rows) r ≡ 0 → 1 ≤ weight_of rows e → ⊥
   weightless e r is none weighs = let weight = row_weighs rows lawful sound e r is in omega (arith, weight, none, weighs)
+
+  pub own_uses : (e : ℕ) (r : Row) → ((k : ℕ) → ¬ ReachesOpaque rows e k) → 1 ≤ weight_of rows e → row_at rows e ≡ r → MatchOption (own_matrix r) (IsUsedItself rows e) (IsOpenedBy rows e)
+  own_uses e row.Null reads weighs is = absurd (weightless e row.Null is refl weighs)
+  own_uses e (row.Opaque kind form matrix text) reads weighs is = absurd (reads e (here, rw is tt))
+  own_uses e (row.Matrix form affine next) reads weighs is = absurd (weightless e (row.Matrix form affine next) is refl weighs)
+  own_uses e (row.Prim p matrix) reads weighs is = λ s. row_uses rows e (row.Prim p matrix) s sound is
+  own_uses e (row.Tree items matrix) reads weighs is = tree_opened e items matrix is
+  own_uses e (row.Assembly items matrix) reads weighs is = assembly_opened e items matrix is
+  own_uses e (row.Instance n matrix) reads weighs is = instance_opened e n matrix is

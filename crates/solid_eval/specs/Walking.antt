@@ -87,6 +87,17 @@ pub record IsWalk (rows : List Entity) (w : Walk) : Type 0 where
 
 -- ---- the next part of a level
 
+-- solidd's own: the matrix of a tree, an assembly or an instance, 0 for none. Other rows have no
+-- parts
+abbrev pub own_matrix : Row → Option ℕ
+own_matrix row.Null = None
+own_matrix (row.Opaque kind form matrix text) = None
+own_matrix (row.Matrix form affine next) = None
+own_matrix (row.Prim p matrix) = None
+own_matrix (row.Tree items matrix) = Some matrix
+own_matrix (row.Assembly items matrix) = Some matrix
+own_matrix (row.Instance number matrix) = Some matrix
+
 -- solidd's own: the spans of a level's box before an operand's, item's or child's own matrix
 abbrev pub part_spans : List Entity → Level → Part → Span3
 part_spans rows l part = spans_through (chain_of rows part.matrix) (spans_of l.at)
@@ -99,20 +110,3 @@ pub record IsPart (rows : List Entity) (l : Level) (part : Part) : Type 0 where
   pub less : depth_of rows part.number < depth_of rows l.e
   pub reads : (k : ℕ) → ¬ ReachesOpaque rows part.number k
   pub weighs : 1 ≤ weight_of rows part.number
-
--- solidd's own: a level on which all uses of an entity over a box are left
-pub record IsOpened (rows : List Entity) (e : ℕ) (before : Box3) (l : Level) : Type 0 where
-  pub number : l.e ≡ e
-  pub all : uses (solid_of rows e) (spans_of before) ≡ level_uses rows l
-  pub at : IsBox l.at
-
--- solidd's own: through an entity's matrix its uses are those of a level before its first part
-abbrev pub OpensThrough : List Entity → ℕ → ℕ → Type 0
-OpensThrough rows e matrix = (before : Box3) (l : Level) → l.e ≡ e → l.index ≡ 0 → IsBox l.at
-    → spans_of l.at ≡ spans_through (chain_of rows matrix) (spans_of before)
-    → IsOpened rows e before l
-
--- an entity is its own one use
-abbrev pub IsOneUse : List Entity → ℕ → Type 0
-IsOneUse rows e = (before : Box3) →
-    uses (solid_of rows e) (spans_of before) ≡ record { number = e; spans = spans_of before } ∷ []

@@ -4,10 +4,14 @@ ghost use Rattle.solid_base.specs.declared.references.Reference.TheVariants as r
 ghost use Rattle.solid_base.specs.Graph.{AreSound};
 ghost use Rattle.solid_base.specs.Ranges.{IsLawfulRow};
 ghost use Rattle.solid_base.specs.References.{operands_of};
+ghost use Rattle.fixed_enclosure.specs.Places.{spans_of};
+ghost use Rattle.fixed_enclosure.specs.Spans.{IsBox};
 ghost use Rattle.entity_graph.specs.Opaque.{ReachesOpaque};
-ghost use Rattle.solid_eval.specs.Walking.{level_uses, IsPart};
+ghost use Rattle.solid_eval.specs.Walking.{level_uses, part_spans, IsPart};
 
 use crate::level_stack::Level;
+use affine_pull::pull_chain;
+use fixed_enclosure::Box3;
 use solid_base::{Item, Items, Placed, PlacedList, Row, Rows};
 
 /// An operand, item or child of a level: its number, the matrix of its place, 0 for none, and the
@@ -55,6 +59,20 @@ pub fn part_from(rows: &Rows, level: &Level) -> Option<Part>
         }
         None | Some(Row::Null | Row::Opaque { .. } | Row::Matrix { .. } | Row::Prim { .. }) => None,
     }
+}
+
+/// The box of a part of a level, in steps, before the part's own matrix.
+#[tactic(auto, using(crate::proofs::NextParts::unmoved))]
+pub fn part_box(rows: &Rows, level: &Level, part: &Part) -> Box3
+    requires rows { AllByRecursion (λ e. IsLawfulRow e.row) rows.now }
+    requires at { IsBox level.now.at }
+    ensures spans { spans_of result ≡ part_spans rows.now level.now part.now }
+    ensures at { IsBox result }
+{
+    if part.matrix == 0 {
+        return level.at;
+    }
+    pull_chain(rows, part.matrix, &level.at)
 }
 
 // The next operand from a place on, and the place after it.

@@ -7,15 +7,13 @@ ghost use Rattle.solid_base.specs.Ranges.{IsLawfulRow};
 ghost use Rattle.solid_base.specs.References.{row_at};
 ghost use Rattle.fixed_enclosure.specs.Places.{spans_of};
 ghost use Rattle.fixed_enclosure.specs.Spans.{IsBox};
-ghost use Rattle.affine_pull.specs.Chains.{chain_of, spans_through};
 ghost use Rattle.entity_graph.specs.Opaque.{ReachesOpaque};
 ghost use Rattle.solid_eval.specs.Solids.{solid_of, IsSolidRow};
 ghost use Rattle.solid_eval.specs.Uses.{uses};
-ghost use Rattle.solid_eval.specs.Walking.{levels_uses, uses_left, IsStack, IsWalk};
-ghost use Rattle.solid_eval.specs.Walking.{IsOneUse, OpensThrough};
+ghost use Rattle.solid_eval.specs.Walking.{levels_uses, uses_left, IsStack, IsWalk, own_matrix};
 
 use crate::level_stack::{Level, Levels};
-use crate::parts::part_from;
+use crate::parts::{part_box, part_from};
 use affine_pull::pull_chain;
 use fixed_enclosure::Box3;
 use solid_base::{MOST_LEVELS, Row, Rows};
@@ -78,75 +76,63 @@ impl Walk {
         ensures at { MatchOption result (Unit {0}) (λ u. IsBox u.1) }
         ensures walk { IsWalk rows.now self.new }
     {
-        match self.start.take() {
-            Some((e, at)) => Some(first_use(rows, e, &at, &mut self.levels)),
-            None => next_use(rows, &mut self.levels),
-        }
+        let Some((e, at)) = &self.start else {
+            return next_use(rows, &mut self.levels);
+        };
+        let (e, mut at) = (*e, *at);
+        self.start = None;
+        let number = first_use(rows, e, &mut at, &mut self.levels);
+        Some((number, at))
     }
 }
 
-// The first use of an entity. Each tree, assembly and instance on the way down is pushed, with the
-// place after the part that is taken.
-fn first_use(rows: &Rows, e: u32, at: &Box3, levels: &mut Levels) -> (u32, Box3)
+// The first use of an entity over a box: its number, and its box in place of the entity's. Each
+// tree, assembly and instance on the way down is pushed, with the place after the part that is
+// taken.
+fn first_use(rows: &Rows, e: u32, at: &mut Box3, levels: &mut Levels) -> u32
     requires rows { AllByRecursion (λ e. IsLawfulRow e.row) rows.now }
     requires sound { AreSound rows.now }
-    requires at { IsBox at.now }
+    requires at { IsBox at.old }
     requires read { (n : ℕ) → ¬ ReachesOpaque rows.now e n }
     requires weighs { 1 ≤ weight_of rows.now e }
     requires deep { depth_of rows.now e + length levels.old.list ≤ most_levels }
     requires stack { IsStack rows.now levels.old }
-    ensures first { uses (solid_of rows.now e) (spans_of at.now) ++
+    ensures first { uses (solid_of rows.now e) (spans_of at.old) ++
         levels_uses rows.now levels.old.list ≡
-        record { number = result.0; spans = spans_of result.1 } ∷
+        record { number = result; spans = spans_of at.new } ∷
         levels_uses rows.now levels.new.list }
-    ensures at { IsBox result.1 }
+    ensures at { IsBox at.new }
     ensures stack { IsStack rows.now levels.new }
 {
-    let Some(matrix) = level_matrix(rows, e) else {
-        return (e, *at);
+    let matrix = match matrix_of(rows, e) {
+        Some(matrix) => matrix,
+        None => return e,
     };
-    let mut level = opened(rows, e, matrix, at);
+    let mut level = Level {
+        e,
+        at: pull_chain(rows, matrix, at),
+        index: 0,
+    };
     match part_from(rows, &level) {
         Some(part) => {
-            let at = pull_chain(rows, part.matrix, &level.at);
+            *at = part_box(rows, &level, &part);
             level.index = part.next;
             levels.push(level);
-            first_use(rows, part.number, &at, levels)
+            first_use(rows, part.number, at, levels)
         }
-        None => (e, *at),
+        None => e,
     }
 }
 
-// The matrix of a tree, an assembly or an instance. None for a primitive.
-fn level_matrix(rows: &Rows, e: u32) -> Option<u32>
-    requires rows { AllByRecursion (λ e. IsLawfulRow e.row) rows.now }
-    requires sound { AreSound rows.now }
-    requires read { (n : ℕ) → ¬ ReachesOpaque rows.now e n }
-    requires weighs { 1 ≤ weight_of rows.now e }
-    ensures { MatchOption result (IsOneUse rows.now e) (OpensThrough rows.now e) }
+// The matrix of a tree, an assembly or an instance, 0 for none. None for a primitive.
+fn matrix_of(rows: &Rows, e: u32) -> Option<u32>
+    ensures { result ≡ own_matrix (row_at rows.now e) }
 {
     match rows.row(e) {
         Some(Row::Tree { matrix, .. }) => Some(*matrix),
         Some(Row::Assembly { matrix, .. }) => Some(*matrix),
         Some(Row::Instance { matrix, .. }) => Some(*matrix),
         None | Some(Row::Null | Row::Opaque { .. } | Row::Matrix { .. } | Row::Prim { .. }) => None,
-    }
-}
-
-// A level before its first part, over a box carried back through a matrix.
-fn opened(rows: &Rows, e: u32, matrix: u32, at: &Box3) -> Level
-    requires rows { AllByRecursion (λ e. IsLawfulRow e.row) rows.now }
-    requires at { IsBox at.now }
-    ensures number { result.e ≡ e }
-    ensures index { result.index ≡ 0 }
-    ensures spans { spans_of result.at ≡
-        spans_through (chain_of rows.now matrix) (spans_of at.now) }
-    ensures at { IsBox result.at }
-{
-    Level {
-        e,
-        at: pull_chain(rows, matrix, at),
-        index: 0,
     }
 }
 
@@ -166,9 +152,10 @@ fn next_use(rows: &Rows, levels: &mut Levels) -> Option<(u32, Box3)>
     while let Some(level) = levels.last() {
         match part_from(rows, level) {
             Some(part) => {
-                let at = pull_chain(rows, part.matrix, &level.at);
+                let mut at = part_box(rows, level, &part);
                 levels.set_index(part.next);
-                return Some(first_use(rows, part.number, &at, levels));
+                let number = first_use(rows, part.number, &mut at, levels);
+                return Some((number, at));
             }
             None => levels.leave(),
         }
