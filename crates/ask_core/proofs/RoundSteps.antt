@@ -10,6 +10,7 @@ use Rattle.solid_base.specs.declared.classes.Verdict.{Verdict}
 use Rattle.solid_base.specs.declared.entities.Entity.{Entity}
 use Rattle.fixed_enclosure.specs.declared.enclosures.Enc.TheVariants as enc
 use Rattle.memo_graph.specs.declared.key.Key.{Key}
+use Rattle.memo_graph.specs.Memos.{Entry}
 use Rattle.ask_core.specs.Books.{key_verdict}
 use Rattle.ask_core.specs.Rounds.{picked, fresh_entries, unfound, wanted_keys, AreRight}
 
@@ -104,7 +105,7 @@ first_fresh : (v : Verdict) (k : Key) (o : Option Verdict) (values : List Verdic
 first_fresh v k None values keys found = refl
 first_fresh v k (Some w) values keys found = refl
 
-pub fresh_from : (values : List Verdict) (keys : List Key) (found : List (Option Verdict)) (n : ℕ) (v : Verdict) (k : Key) (o : Option Verdict)
+fresh_from : (values : List Verdict) (keys : List Key) (found : List (Option Verdict)) (n : ℕ) (v : Verdict) (k : Key) (o : Option Verdict)
     → n < length values → n < length keys → n < length found
     → fresh_entries (drop n values) (drop n keys) (drop n found)
     ≡ fresh_entries (get_or values n v ∷ []) (get_or keys n k ∷ []) (get_or found n o ∷ []) ++ fresh_entries (drop (n + 1) values) (drop (n + 1) keys) (drop (n + 1) found)
@@ -119,3 +120,12 @@ one_fresh v k (Some w) is = absurd (grind (arith, is))
 pub not_fresh : (v : Verdict) (k : Key) (o : Option Verdict) → is_some o ≡ true → fresh_entries (v ∷ []) (k ∷ []) (o ∷ []) ≡ []
 not_fresh v k None is = absurd (grind (arith, is))
 not_fresh v k (Some w) is = refl
+
+-- of the fresh entries the first are a front, and what comes of one key more stands after it
+pub one_key_on : (values : List Verdict) (keys : List Key) (found : List (Option Verdict)) (front : List Entry) (n : ℕ) (k : Key)
+    → length values ≡ length keys → length found ≡ length keys → n < length keys
+    → fresh_entries values keys found ≡ front ++ fresh_entries (drop n values) (drop n keys) (drop n found)
+    → fresh_entries values keys found ≡ front ++ (fresh_entries (get_or values n no_verdict ∷ []) (get_or keys n k ∷ []) (get_or found n None ∷ [])
+    ++ fresh_entries (drop (n + 1) values) (drop (n + 1) keys) (drop (n + 1) found))
+one_key_on values keys found front n k each_value each_found inside all =
+    all ∙ ap (λ l. front ++ l) (fresh_from values keys found n no_verdict k None (omega (arith, inside, each_value)) inside (omega (arith, inside, each_found)))

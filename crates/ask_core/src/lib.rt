@@ -4,7 +4,8 @@
 //! facts, and how many evaluations of primitives an answer takes. What an answer means for places
 //! is said by `laws`, why verdicts stay right through commits by `book_laws`, and that rounds end by
 //! `run_laws`. The modules are read in this order: `cells`, `answers`, `laws`; `commits`, `books`,
-//! `book_laws`; `runs` with `course` and `rounds`; `run_laws`; `asking`; `events` and `machine`.
+//! `book_laws`; `runs` with `course`, `keys` and `rounds`; `run_laws`; `asking`; `events` and
+//! `machine`; then `logged` and `crossing`.
 #![tactic(auto)]
 
 mod answers;

@@ -1,9 +1,9 @@
-use Rattle.std.proofs.Common.{◌+◌, ◌++◌, [], ◌∷◌, drop, get_or, not, None, sym, ap, ◌∙◌, arith, append_assoc}
+use Rattle.std.proofs.Common.{◌+◌, ◌++◌, [], ◌∷◌, drop, get_or, not, sym, ap, ◌∙◌, append_assoc}
 use Rattle.memo_graph.specs.declared.key.Key.{Key}
 use Rattle.memo_graph.specs.Memos.{Entry, MemoFacts, filled}
 use Rattle.ask_core.specs.Rounds.{fresh_entries}
 use Rattle.ask_core.proofs.KeptEntries.{kept_front, kept_more, on_err}
-use Rattle.ask_core.proofs.RoundSteps.{fresh_from, one_fresh, not_fresh, no_key, no_verdict}
+use Rattle.ask_core.proofs.RoundSteps.{one_key_on, one_fresh, not_fresh, no_key, no_verdict}
 use Rattle.ask_core.proofs.rounds.keep.Goals as goal
 use Rattle.ask_core.proofs.rounds.keep.Goals.{then-is_none+in_ok-fill, else-is_none}
 
@@ -13,12 +13,9 @@ loop-place-preserved c =
     let keys = c.args.keys.now in
     let found = c.args.found.now in
     let n = c.loop-place.place in
-    let inside = c.loop-place-test.true in
-    let each_value = c.requires.values in
-    let each_found = c.requires.found in
     let was = c.loop-place.invariant in
     let most = c.args.memo.now.capacity in
-    let here = λ (k : Key). was.all ∙ ap (λ l. was.front ++ l) (fresh_from values keys found n no_verdict k None (omega (arith, inside, each_value)) inside (omega (arith, inside, each_found))) in
+    let here = λ (k : Key). one_key_on values keys found was.front n k c.requires.values c.requires.found c.loop-place-test.true was.all in
     elim c.if-is_none.branch [
       | then-is_none+in_ok-fill w ↦
           let key = w.index-keys-place.result in
@@ -50,11 +47,8 @@ returns-in_err-fill-clause-err c =
     let keys = c.args.keys.now in
     let found = c.args.found.now in
     let n = c.loop-place.place in
-    let inside = c.loop-place-test.true in
-    let each_value = c.requires.values in
-    let each_found = c.requires.found in
     let was = c.loop-place.invariant in
-    let here = was.all ∙ ap (λ l. was.front ++ l) (fresh_from values keys found n no_verdict no_key None (omega (arith, inside, each_value)) inside (omega (arith, inside, each_found))) in
+    let here = one_key_on values keys found was.front n no_key c.requires.values c.requires.found c.loop-place-test.true was.all in
     let one = ap (λ l. was.front ++ (l ++ fresh_entries (drop (n + 1) values) (drop (n + 1) keys) (drop (n + 1) found))) (one_fresh _ _ _ (c.is_none.ensures ∙ ap not c.if-is_none.true)) in
     on_err c.from_residual.result
     (kept_front c.args.memo.now.capacity _ was.front _ c.args.memo.now.entries _ (get_or keys n no_key, get_or values n no_verdict) (here ∙ one) (ap (λ (m : MemoFacts). m.entries) c.in_err-fill.ensures.err ∙ was.so_far))
