@@ -34,14 +34,12 @@ fn pull_within(rows: &Rows, levels: u32, matrix: u32, at: &Box3) -> Box3
     if levels == 0 {
         return *at;
     }
-    match rows.row(matrix) {
-        Some(Row::Matrix { affine, next, .. }) => {
-            if *next == 0 {
-                return pull(affine, at);
-            }
-            let before = pull_within(rows, levels - 1, *next, at);
-            pull(affine, &before)
-        }
-        _ => *at,
+    let Some(Row::Matrix { affine, next, .. }) = rows.row(matrix) else {
+        return *at;
+    };
+    if *next == 0 {
+        return pull(affine, at);
     }
+    let before = pull_within(rows, levels - 1, *next, at);
+    pull(affine, &before)
 }

@@ -42,7 +42,7 @@ fn mark_of(key: &HashedKey) -> usize
     ensures mark { result ≡ mark_of key.now }
     ensures within { result < most_marks }
 {
-    key.key().de as usize / 2 % MARKS
+    key.de() as usize / 2 % MARKS
 }
 
 /// Whether two keys are the same.

@@ -263,7 +263,7 @@ fn verdict_on<L: Ledger>(
 {
     match found {
         Some(verdict) => verdict,
-        None => primitive_verdict(rows, key.key().de, &key.key().at, leaves),
+        None => primitive_verdict(rows, key.de(), &key.at(), leaves),
     }
 }
 

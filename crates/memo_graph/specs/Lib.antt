@@ -1,3 +1,4 @@
 pub mod Digests
 pub mod KeyLaws
 pub mod Memos
+pub mod PackedKeys

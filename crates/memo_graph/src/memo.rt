@@ -64,7 +64,7 @@ impl Memo {
         ensures held { IsSome (verdict_of key.now self.old.entries) → IsOk result }
         ensures valid { IsMemo self.new }
     {
-        keep(&mut self.cache, *key, verdict)
+        keep(&mut self.cache, key, verdict)
     }
 
     /// How many entries the memo holds.

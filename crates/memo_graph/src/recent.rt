@@ -32,16 +32,16 @@ fn first_verdict(cache: &LruCache<HashedKey, Verdict>) -> Option<Verdict>
 // Keeps the verdict under the key, as the most recently used entry.
 pub(crate) fn keep(
     cache: &mut LruCache<HashedKey, Verdict>,
-    key: HashedKey,
+    key: &HashedKey,
     verdict: Verdict,
 ) -> Result<(), AllocError>
     ensures entries { OnOk result (cache.new ≡ lru_cache
-        (put_entries same_key cache.old key verdict) cache.old.cap) }
+        (put_entries same_key cache.old key.now verdict) cache.old.cap) }
     ensures err { OnErr result (cache.new ≡ cache.old) }
-    ensures held { IsSome (lookup (same_key key) cache.old.entries) →
+    ensures held { IsSome (lookup (same_key key.now) cache.old.entries) →
         IsOk result }
 {
-    match cache.put(key, verdict) {
+    match cache.put(*key, verdict) {
         Ok(_) => Ok(()),
         Err(_) => Err(AllocError),
     }

@@ -1,11 +1,15 @@
 //! Small memos, by tables of looks and fills.
+ghost use Rattle.fixed_enclosure.specs.Spans.{IsBox};
+
 use crate::{HashedKey, Memo};
 use fixed_enclosure::{Box3, Enc};
 use solid_base::{Class, Verdict};
 use std::test::*;
 
-fn point(at: i128) -> Box3 {
-    let enc = Enc::Span { lo: at, hi: at };
+fn point(at: i32) -> Box3
+    ensures { IsBox result }
+{
+    let enc = Enc::point(at as i128);
     Box3 {
         x: enc,
         y: enc,
@@ -13,7 +17,7 @@ fn point(at: i128) -> Box3 {
     }
 }
 
-fn key(de: u32, stamp: u64, at: i128) -> HashedKey {
+fn key(de: u32, stamp: u64, at: i32) -> HashedKey {
     HashedKey::new(de, stamp, &point(at))
 }
 
@@ -45,6 +49,21 @@ fn a_key_is_its_entity_its_stamp_and_its_box(rt: HostRuntime) -> Result<(), Fail
     assert_eq!(rt; memo.look(&key(1, 0, 5)), Some(mixed(1)));
     assert_eq!(rt; memo.len(), 2);
     Ok(())
+}
+
+#[test]
+fn a_key_gives_back_its_parts(rt: HostRuntime) {
+    let most = 1_000_000_000_000_000_000;
+    let at = Box3 {
+        x: Enc::Span {
+            lo: -most,
+            hi: most,
+        },
+        y: Enc::All,
+        z: Enc::Span { lo: 0, hi: 1 },
+    };
+    let key = HashedKey::new(7, 9, &at);
+    assert_eq!(rt; (key.de(), key.stamp(), key.at()), (7, 9, at));
 }
 
 #[test]
