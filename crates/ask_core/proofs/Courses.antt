@@ -205,6 +205,6 @@ module _ (rows : List Entity) (q : Question) where
       let sized = sized_here course.count place is.count inside in
       let same = is.size in
       omega (arith, left, more, sized, same) where
-        next_there : (o : Option (ℕ × Box3)) → ¬ (o ≡ None) → 0 < length (uses_from_next rows o (uses_left rows course.ahead.walk))
+        next_there : (o : Option ℕ) → ¬ (o ≡ None) → 0 < length (uses_from_next o course.ahead.at (uses_left rows course.ahead.walk))
         next_there None h = absurd (h refl)
         next_there (Some u) h = omega arith

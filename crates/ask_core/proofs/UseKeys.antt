@@ -35,7 +35,7 @@ box_back at = λ i. record { x = enc_back at.x i; y = enc_back at.y i; z = enc_b
 spans_back : (s : Span3) → spans_of (box_of_spans s) ≡ s
 spans_back s = λ i. record { x = span_back s.x i; y = span_back s.y i; z = span_back s.z i }
 
-pub key_is : (version : Version) (n stamp : ℕ) (at : Box3) → at_number version.stamps n ≡ Some stamp → use_key version (use_of (n, at)) ≡ record { de = n; stamp = stamp; at = at }
+pub key_is : (version : Version) (n stamp : ℕ) (at : Box3) → at_number version.stamps n ≡ Some stamp → use_key version (use_of n at) ≡ record { de = n; stamp = stamp; at = at }
 key_is version n stamp at is =
     let same : stamp_in version n ≡ stamp = ap or_zero is in
     λ i. record { de = n; stamp = same i; at = box_back at i }

@@ -38,21 +38,22 @@ abbrev pub uses_at : List Entity → Question → ℕ → List Use
 uses_at rows q place = uses_of_cell rows q (slice_get (all_cells q) place)
 
 -- the use with a primitive's number and a box
-abbrev pub use_of : ℕ × Box3 → Use
-use_of u = record { number = u.0; spans = spans_of u.1 }
+abbrev pub use_of : ℕ → Box3 → Use
+use_of number at = record { number = number; spans = spans_of at }
 
--- solidd's own: the uses ahead: the next one, and those that are left on the walk
-abbrev pub uses_from_next : List Entity → Option (ℕ × Box3) → List Use → List Use
-uses_from_next rows None left = []
-uses_from_next rows (Some u) left = use_of u ∷ left
+-- solidd's own: the uses ahead: the next one, where there is one, and those that are left on the
+-- walk
+abbrev pub uses_from_next : Option ℕ → Box3 → List Use → List Use
+uses_from_next None at left = []
+uses_from_next (Some number) at left = use_of number at ∷ left
 
 abbrev pub uses_ahead : List Entity → Ahead → List Use
-uses_ahead rows ahead = uses_from_next rows ahead.next (uses_left rows ahead.walk)
+uses_ahead rows ahead = uses_from_next ahead.next ahead.at (uses_left rows ahead.walk)
 
--- the walk can go on, and the next use is over a box
+-- the walk can go on, and the box of the next use is one
 pub record IsAhead (rows : List Entity) (ahead : Ahead) : Type 0 where
   pub walk : IsWalk rows ahead.walk
-  pub at : MatchOption ahead.next (Unit {0}) (λ u. IsBox u.1)
+  pub at : IsBox ahead.at
 
 -- solidd's own: where a run is in its cells: it has the verdicts on the finished cells, and those
 -- on the first uses of the cell that it is in

@@ -23,11 +23,12 @@ use solid_eval::{Walk, combine, weight};
 use solid_questions::{Question, cell_at};
 use std::alloc::{AllocError, Global};
 
-/// The uses of a cell that are ahead: the next one, drawn from a walk, and those that are left on
-/// it.
+/// The uses of a cell that are ahead: the number and the box of the next one, drawn from a walk,
+/// and those that are left on it. Where there is no next one, the box says nothing.
 #[derive(Drop)]
 pub(crate) struct Ahead {
-    pub(crate) next: Option<(u32, Box3)>,
+    pub(crate) next: Option<u32>,
+    pub(crate) at: Box3,
     walk: Walk,
 }
 
@@ -44,8 +45,9 @@ impl Ahead {
         ensures ahead { IfOk result (IsAhead rows.now) }
     {
         let mut walk = Walk::new(alloc, e, at)?;
-        let next = walk.next(rows);
-        Ok(Ahead { next, walk })
+        let mut at = *at;
+        let next = walk.next(rows, &mut at);
+        Ok(Ahead { next, at, walk })
     }
 
     /// Starts again with all uses of an entity over a box.
@@ -60,7 +62,7 @@ impl Ahead {
         ensures ahead { IsAhead rows.now self.new }
     {
         self.walk.restart(e, at);
-        self.next = self.walk.next(rows);
+        self.next = self.walk.next(rows, &mut self.at);
     }
 
     /// Passes the next use.
@@ -72,7 +74,7 @@ impl Ahead {
             uses_ahead rows.now self.new ≡ rest }
         ensures ahead { IsAhead rows.now self.new }
     {
-        self.next = self.walk.next(rows);
+        self.next = self.walk.next(rows, &mut self.at);
     }
 }
 

@@ -140,14 +140,14 @@ impl Round {
         ensures primitives { AllByRecursion (λ u. IsPrimitiveRow
             (row_at table.now.model.rows u.number)) (uses_ahead table.now.model.rows ahead.new) }
     {
-        let Some((de, at)) = &ahead.next else {
+        let Some(de) = ahead.next else {
             return false;
         };
         if self.places.len() == MOST_USES {
             return false;
         }
         table.obeys();
-        let key = HashedKey::new(*de, table.stamp(*de), at);
+        let key = HashedKey::new(de, table.stamp(de), &ahead.at);
         let taken = self.take(&key, memo);
         if taken {
             ahead.pass(table.rows());

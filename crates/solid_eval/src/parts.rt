@@ -61,18 +61,19 @@ pub fn part_from(rows: &Rows, level: &Level) -> Option<Part>
     }
 }
 
-/// The box of a part of a level, in steps, before the part's own matrix.
+/// Makes a box that of a part of a level, in steps, before the part's own matrix.
 #[tactic(auto, using(crate::proofs::NextParts::unmoved))]
-pub fn part_box(rows: &Rows, level: &Level, part: &Part) -> Box3
+pub fn enter_part(rows: &Rows, level: &Level, part: &Part, at: &mut Box3)
     requires rows { AllByRecursion (λ e. IsLawfulRow e.row) rows.now }
-    requires at { IsBox level.now.at }
-    ensures spans { spans_of result ≡ part_spans rows.now level.now part.now }
-    ensures at { IsBox result }
+    requires level { IsBox level.now.at }
+    ensures spans { spans_of at.new ≡ part_spans rows.now level.now part.now }
+    ensures at { IsBox at.new }
 {
     if part.matrix == 0 {
-        return level.at;
+        *at = level.at;
+    } else {
+        *at = pull_chain(rows, part.matrix, &level.at);
     }
-    pull_chain(rows, part.matrix, &level.at)
 }
 
 // The next operand from a place on, and the place after it.

@@ -330,17 +330,17 @@ fn walk_is_by_places(
     has_use(rt, rows, graph, e, 0);
     is_solid(rt, rows, e);
     let mut walk = Walk::new(alloc, e, at)?;
+    let mut there = *at;
     for k in 0..graph.weight(e) {
         has_use(rt, rows, graph, e, k);
-        let found = leaf_at(rows, graph, e, at, k);
-        assert_eq!(rt; walk.next(rows), Some(found), "use {k} of {e}");
+        let (number, found) = leaf_at(rows, graph, e, at, k);
+        let next = walk.next(rows, &mut there);
+        assert_eq!(rt; (next, there), (Some(number), found), "use {k} of {e}");
     }
-    assert_eq!(rt; walk.next(rows), None, "after the last use of {e}");
-    assert_eq!(rt;
-        walk.next(rows),
-        None,
-        "once more after the last use of {e}"
-    );
+    let end = walk.next(rows, &mut there);
+    assert_eq!(rt; end, None, "after the last use of {e}");
+    let again = walk.next(rows, &mut there);
+    assert_eq!(rt; again, None, "once more after the last use of {e}");
     Ok(())
 }
 

@@ -13,7 +13,7 @@ ghost use Rattle.solid_eval.specs.Uses.{uses};
 ghost use Rattle.solid_eval.specs.Walking.{levels_uses, uses_left, IsStack, IsWalk, own_matrix};
 
 use crate::level_stack::{Level, Levels};
-use crate::parts::{part_box, part_from};
+use crate::parts::{enter_part, part_from};
 use affine_pull::pull_chain;
 use fixed_enclosure::Box3;
 use solid_base::{MOST_LEVELS, Row, Rows};
@@ -62,27 +62,29 @@ impl Walk {
         self.levels.clear();
     }
 
-    /// The first of the uses that are left: the primitive's number, and the box before its own
-    /// matrix, in steps; the others are left. None where no use is left, and then none is left
-    /// afterwards. No memory is taken.
-    pub fn next(&mut self, rows: &Rows) -> Option<(u32, Box3)>
+    /// The first of the uses that are left: the primitive's number, and in `at` its box before its
+    /// own matrix, in steps; the others are left. None where no use is left, and then none is left
+    /// afterwards, and `at` is some box. No memory is taken.
+    pub fn next(&mut self, rows: &Rows, at: &mut Box3) -> Option<u32>
         requires rows { AllByRecursion (λ e. IsLawfulRow e.row) rows.now }
         requires sound { AreSound rows.now }
         requires walk { IsWalk rows.now self.old }
+        requires at { IsBox at.old }
         ensures first { MatchOption result
-            ((uses_left rows.now self.old ≡ []) × (uses_left rows.now self.new ≡ []))
-            (λ u. uses_left rows.now self.old ≡
-            record { number = u.0; spans = spans_of u.1 } ∷ uses_left rows.now self.new) }
-        ensures at { MatchOption result (Unit {0}) (λ u. IsBox u.1) }
+            ((uses_left rows.now self.old ≡ []) × (uses_left rows.now self.new ≡ [])
+            × (at.new ≡ at.old))
+            (λ number. uses_left rows.now self.old ≡
+            record { number = number; spans = spans_of at.new } ∷ uses_left rows.now self.new) }
+        ensures at { IsBox at.new }
         ensures walk { IsWalk rows.now self.new }
     {
-        let Some((e, at)) = &self.start else {
-            return next_use(rows, &mut self.levels);
+        let Some((e, start)) = &self.start else {
+            return next_use(rows, &mut self.levels, at);
         };
-        let (e, mut at) = (*e, *at);
+        let e = *e;
+        *at = *start;
         self.start = None;
-        let number = first_use(rows, e, &mut at, &mut self.levels);
-        Some((number, at))
+        Some(first_use(rows, e, at, &mut self.levels))
     }
 }
 
@@ -115,7 +117,7 @@ fn first_use(rows: &Rows, e: u32, at: &mut Box3, levels: &mut Levels) -> u32
     };
     match part_from(rows, &level) {
         Some(part) => {
-            *at = part_box(rows, &level, &part);
+            enter_part(rows, &level, &part, at);
             level.index = part.next;
             levels.push(level);
             first_use(rows, part.number, at, levels)
@@ -136,26 +138,28 @@ fn matrix_of(rows: &Rows, e: u32) -> Option<u32>
     }
 }
 
-// The first use that is left on levels. A level on which none is left is taken off.
-fn next_use(rows: &Rows, levels: &mut Levels) -> Option<(u32, Box3)>
+// The first use that is left on levels: its number, and its box in `at`. A level on which none is
+// left is taken off.
+fn next_use(rows: &Rows, levels: &mut Levels, at: &mut Box3) -> Option<u32>
     requires rows { AllByRecursion (λ e. IsLawfulRow e.row) rows.now }
     requires sound { AreSound rows.now }
     requires stack { IsStack rows.now levels.old }
+    requires at { IsBox at.old }
     ensures first { MatchOption result
-        ((levels_uses rows.now levels.old.list ≡ []) × (levels_uses rows.now levels.new.list ≡ []))
-        (λ u. levels_uses rows.now levels.old.list ≡
-        record { number = u.0; spans = spans_of u.1 } ∷
+        ((levels_uses rows.now levels.old.list ≡ []) × (levels_uses rows.now levels.new.list ≡ [])
+        × (at.new ≡ at.old))
+        (λ number. levels_uses rows.now levels.old.list ≡
+        record { number = number; spans = spans_of at.new } ∷
         levels_uses rows.now levels.new.list) }
-    ensures at { MatchOption result (Unit {0}) (λ u. IsBox u.1) }
+    ensures at { IsBox at.new }
     ensures stack { IsStack rows.now levels.new }
 {
     while let Some(level) = levels.last() {
         match part_from(rows, level) {
             Some(part) => {
-                let mut at = part_box(rows, level, &part);
+                enter_part(rows, level, &part, at);
                 levels.set_index(part.next);
-                let number = first_use(rows, part.number, &mut at, levels);
-                return Some((number, at));
+                return Some(first_use(rows, part.number, at, levels));
             }
             None => levels.leave(),
         }

@@ -6,8 +6,8 @@ use Rattle.affine_pull.proofs.chains.+pull_within.Goals as goal
 pub pull-requires-clause-matrix : goal.pull-requires-clause-matrix
 pull-requires-clause-matrix t c = lawful-affine c.args.rows.now c.args.matrix _ _ _ c.requires.rows (c.in-Some-Matrix.ensures.or_null ∙ c.in-Some-Matrix.field-0-is)
 
-pub pull-requires-in-Some-Matrix-clause-matrix : goal.pull-requires-in-Some-Matrix-clause-matrix
-pull-requires-in-Some-Matrix-clause-matrix t c = lawful-affine c.args.rows.now c.args.matrix _ _ _ c.requires.rows (c.in-Some-Matrix.ensures.or_null ∙ c.in-Some-Matrix.field-0-is)
+pub pull-requires-2-clause-matrix : goal.pull-requires-2-clause-matrix
+pull-requires-2-clause-matrix t c = lawful-affine c.args.rows.now c.args.matrix _ _ _ c.requires.rows (c.in-Some-Matrix.ensures.or_null ∙ c.in-Some-Matrix.field-0-is)
 
 pub returns-then-next-eq0-clause-value : goal.returns-then-next-eq0-clause-value
 returns-then-next-eq0-clause-value t c =

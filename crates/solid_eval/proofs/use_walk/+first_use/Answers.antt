@@ -29,7 +29,7 @@ returns-in-Some-part_from-clause-first t c =
     let below = c.args.levels.now in
     let opened : Level = record { e = c.args.e; at = c.pull_chain.result; index = 0 } in
     ap (λ u. u ++ levels_uses rows below.list) (opened_left rows c.args.e c.in-Some.matrix c.args.at.now c.pull_chain.result c.requires.rows c.requires.sound c.requires.read c.requires.weighs c.in-Some.ensures c.pull_chain.ensures.value)
-    ∙ left_below rows below c.push.new.self opened c.in-Some-part_from.part c.part_box.result _ c.in-Some-part_from.ensures c.push.ensures.list c.part_box.ensures.spans c.first_use.ensures.first
+    ∙ left_below rows below c.push.new.self opened c.in-Some-part_from.part c.enter_part.new.at _ c.in-Some-part_from.ensures c.push.ensures.list c.enter_part.ensures.spans c.first_use.ensures.first
 
 pub returns-in-None-part_from-clause-first : goal.returns-in-None-part_from-clause-first
 returns-in-None-part_from-clause-first t c =

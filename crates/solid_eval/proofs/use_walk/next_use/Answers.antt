@@ -4,24 +4,24 @@ use Rattle.solid_eval.specs.LevelStack.{outer}
 use Rattle.solid_eval.proofs.LevelsLeft.{uses_pushed, stack_popped, before_last, innermost, part_taken, left_below}
 use Rattle.solid_eval.proofs.use_walk.next_use.Goals as goal
 
-pub part_box-at-requires-clause-at : goal.part_box-at-requires-clause-at
-part_box-at-requires-clause-at c =
+pub enter_part-requires-clause-level : goal.enter_part-requires-clause-level
+enter_part-requires-clause-level c =
     (innermost c.args.rows.now c.loop-level.levels c.in-Some.level.now c.loop-level.invariant.stack c.in-Some.ensures).1.at
 
 pub part_from-requires-clause-read : goal.part_from-requires-clause-read
 part_from-requires-clause-read c =
     (innermost c.args.rows.now c.loop-level.levels c.in-Some.level.now c.loop-level.invariant.stack c.in-Some.ensures).1.reads
 
-pub first_use-number-requires-clause-deep : goal.first_use-number-requires-clause-deep
-first_use-number-requires-clause-deep c =
+pub first_use-requires-clause-deep : goal.first_use-requires-clause-deep
+first_use-requires-clause-deep c =
     let rows = c.args.rows.now in
     let levels = c.loop-level.levels in
     let last = innermost rows levels c.in-Some.level.now c.loop-level.invariant.stack c.in-Some.ensures in
     (part_taken rows (before_last rows levels) c.set_index.new.self c.in-Some.level.now c.in-Some-part_from.part last.0 last.1 c.in-Some-part_from.ensures
     (c.set_index.ensures.list c.in-Some.level.now c.in-Some.ensures) (ap (λ n. n + 1) c.set_index.ensures.spare)).1
 
-pub first_use-number-requires-clause-stack : goal.first_use-number-requires-clause-stack
-first_use-number-requires-clause-stack c =
+pub first_use-requires-clause-stack : goal.first_use-requires-clause-stack
+first_use-requires-clause-stack c =
     let rows = c.args.rows.now in
     let levels = c.loop-level.levels in
     let last = innermost rows levels c.in-Some.level.now c.loop-level.invariant.stack c.in-Some.ensures in
@@ -33,8 +33,8 @@ returns-in-Some-part_from-clause-first c =
     let rows = c.args.rows.now in
     let levels = c.loop-level.levels in
     c.loop-level.invariant.left ∙ ap (levels_uses rows) c.in-Some.ensures ∙ uses_pushed rows (outer levels.list) c.in-Some.level.now
-    ∙ left_below rows (before_last rows levels) c.set_index.new.self c.in-Some.level.now c.in-Some-part_from.part c.part_box-at.result _ c.in-Some-part_from.ensures
-    (c.set_index.ensures.list c.in-Some.level.now c.in-Some.ensures) c.part_box-at.ensures.spans c.first_use-number.ensures.first
+    ∙ left_below rows (before_last rows levels) c.set_index.new.self c.in-Some.level.now c.in-Some-part_from.part c.enter_part.new.at _ c.in-Some-part_from.ensures
+    (c.set_index.ensures.list c.in-Some.level.now c.in-Some.ensures) c.enter_part.ensures.spans c.first_use.ensures.first
 
 pub loop-level-preserved : goal.loop-level-preserved
 loop-level-preserved c =
@@ -45,4 +45,5 @@ loop-level-preserved c =
     record {
       left = c.loop-level.invariant.left ∙ ap (levels_uses rows) list ∙ uses_pushed rows left.list level ∙ ap (λ u. u ++ levels_uses rows left.list) c.in-None.ensures;
       stack = (stack_popped rows c.loop-level.levels left level c.loop-level.invariant.stack list c.leave.ensures.spare).0;
+      at = c.loop-level.invariant.at;
     }

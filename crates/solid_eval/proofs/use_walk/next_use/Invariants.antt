@@ -6,6 +6,7 @@ abbrev pub invariant-loop-level : goal.invariant-loop-level
 invariant-loop-level l = record {
   left : levels_uses l.rows l.fn.levels.list ≡ levels_uses l.rows l.levels.list;
   stack : IsStack l.rows l.levels;
+  at : l.at ≡ l.fn.at;
 }
 
 abbrev pub decreases-loop-level : goal.decreases-loop-level
