@@ -13,7 +13,7 @@ use Rattle.solid_eval.specs.Uses.{Use, use_verdict}
 use Rattle.solid_questions.specs.declared.questions.Question.{Question}
 use Rattle.solid_questions.specs.Questions.{IsLawful, entity_of}
 use Rattle.memo_graph.specs.declared.key.Key.{Key}
-use Rattle.memo_graph.specs.Memos.{Entry, MemoFacts, verdict_of}
+use Rattle.memo_graph.specs.Memos.{Entry, verdict_of}
 use Rattle.edit_core.specs.Versions.{Version, IsVersionOf}
 use Rattle.solid_base.specs.Graph.{weight_of}
 use Rattle.solid_questions.specs.declared.questions.Question.TheVariants as question
@@ -24,9 +24,10 @@ use Rattle.solid_base.specs.declared.entities.Model.{Model}
 use Rattle.solid_base.specs.References.{row_at}
 use Rattle.ask_core.specs.Answers.{cell_verdict, cell_verdicts, IsAnswer, IsAnswerOn, IsAnswerUnless}
 use Rattle.ask_core.specs.Books.{BookFacts, key_verdict, AsksCells, IsNotRefused}
-use Rattle.ask_core.specs.Runs.{RunFacts, IsRunning, IsTaken, IsOwnKey, IsOwn, IsBetween, IsAtStage, with_taken, worked, settled, next_stage, left_of, left_in_cell, question_uses, use_key, use_keys, not_held}
-use Rattle.ask_core.specs.Rounds.{uses_at, uses_ahead, IsAhead, IsCourse, IsAheadBy, IsGoing, done_of, AreRight, fresh_entries, unfound, wanted_keys, picked, IsRoundOf, IsTaking, IsEmpty, HasRoom}
-use Rattle.ask_core.specs.RunStates.{left_after, facts_of, IsRun, IsRoundAt, AsksOneCell}
+use Rattle.ask_core.specs.Runs.{RunFacts, IsRunning, IsTaken, IsOwnKey, IsOwn, IsBetween, IsAtStage, with_taken, worked, settled, next_stage, left_of, left_in_cell, question_uses, use_key, use_keys, not_held, most_keys}
+use Rattle.ask_core.specs.Rounds.{uses_at, uses_ahead, IsAhead, IsCourse, IsAheadBy, IsGoing, done_of, AreRight, fresh_entries, unfound, wanted_keys, picked, IsPrimitiveKey, IsRoundOf, IsGathered, IsEmpty, HasRoom}
+use Rattle.ask_core.specs.RunStates.{left_after, facts_of, taken_at, IsRun, IsRoundAt, AsksOneCell}
+use Rattle.ask_core.specs.declared.course.Ahead.{Ahead}
 use Rattle.ask_core.specs.declared.course.Course.{Course}
 use Rattle.ask_core.specs.declared.rounds.Round.{Round}
 use Rattle.ask_core.specs.declared.runs.Stage.{Stage}
@@ -50,145 +51,291 @@ right_found rows entries (key ∷ keys) h = (go (verdict_of key entries) refl, r
   go None is = tt
   go (Some v) is = h.0 v is
 
+-- ---- uses that are gathered
+
+-- before a look contracts see no uses
+none_seen : (s : Stage) (places : List ℕ) (left : List Use) → places ≡ [] → taken_at s (take (length places) left) ≡ []
+none_seen stage.Idle places left none = refl
+none_seen stage.Ready places left none = ap (λ (l : List ℕ). take (length l) left) none
+none_seen stage.Worked places left none = ap (λ (l : List ℕ). take (length l) left) none
+none_seen stage.Done places left none = ap (λ (l : List ℕ). take (length l) left) none
+
+none_unfound : (keys : List Key) → unfound keys [] ≡ []
+none_unfound [] = refl
+none_unfound (key ∷ keys) = refl
+
+-- before a look a round has neither verdicts nor what was found
+not_looked : (version : Version) (left : List Use) (round : Round) → IsEmpty round ⊎ IsGathered version left round → (round.found.list ≡ []) × (round.values.list ≡ [])
+not_looked version left round (inl empty) = (empty.found, empty.values)
+not_looked version left round (inr gathered) = (gathered.no_found, gathered.no_values)
+
+no_wanted_yet : (round : Round) → round.found.list ≡ [] → round.values.list ≡ [] → wanted_keys round.values.list round.keys.list round.found.list ≡ []
+no_wanted_yet round found values = (λ i. wanted_keys (values i) round.keys.list (found i)) ∙ none_unfound round.keys.list
+
+module _ (book : BookFacts) (table : Version) (q : Question) (live : Bool) (course : Course) (round : Round)
+    (is : IsRun (facts_of book table q live course round stage.Idle) course round) where
+  abbrev pub idle : RunFacts
+  idle = facts_of book table q live course round stage.Idle
+
+  module _ (none : round.places.list ≡ []) where
+    no_places : length round.places.list ≡ 0
+    no_places = ap (λ (l : List ℕ). length l) none
+
+    none_yet : IsAheadBy table.model.rows q course 0
+    none_yet = subst (IsAheadBy table.model.rows q course) no_places is.ahead
+
+    pub some_left : uses_ahead table.model.rows course.ahead ≢ []
+    some_left =
+        let left = is.running.at_stage.1 in
+        let all = all_length table.model.rows q course is.course_is in
+        some_ahead table.model.rows q course is.course_is is.going none_yet (omega (arith, left, all))
+
+    left_is : left_in_cell idle ≡ uses_ahead table.model.rows course.ahead
+    left_is = idle_ahead table.model.rows q course is.course_is is.going none_yet
+
+  -- a round that has no uses is empty
+  pub nothing_gathered : round.places.list ≡ [] → IsEmpty round
+  nothing_gathered none = go is.round_is where
+    go : IsEmpty round ⊎ IsGathered table (left_in_cell idle) round → IsEmpty round
+    go (inl empty) = empty
+    go (inr gathered) = absurd (gathered.taken.some (ap (λ (l : List ℕ). take (length l) (left_in_cell idle)) none))
+
+  module _ (after : Course) (gathered : Round) (none : round.places.list ≡ []) (taken : List Use)
+      (whole : IsTaken table (uses_ahead table.model.rows course.ahead) taken)
+      (of : IsRoundOf table taken gathered)
+      (front : uses_ahead table.model.rows course.ahead ≡ taken ++ uses_ahead table.model.rows after.ahead)
+      (count : after.count ≡ course.count) (size : after.size ≡ course.size) (cells : after.cells ≡ course.cells) (known : after.known ≡ course.known) (room : after.room ≡ course.room)
+      (ahead : IsAhead table.model.rows after.ahead) (found : gathered.found ≡ round.found) (values : gathered.values ≡ round.values) (has_room : HasRoom gathered) where
+    long : length gathered.places.list ≡ length taken
+    long = picked_length gathered.keys.list gathered.places.list (use_key table) taken of.places
+
+    same_cells : length after.cells.list ≡ length course.cells.list
+    same_cells = ap (λ (s : Stack Verdict). length s.list) cells
+
+    same_known : length after.known.list ≡ length course.known.list
+    same_known = ap (λ (s : Stack Verdict). length s.list) known
+
+    same_done : done_of after ≡ done_of course
+    same_done =
+        let product : length after.cells.list * after.size ≡ length course.cells.list * course.size = ap (λ m. m * after.size) same_cells ∙ ap (λ m. length course.cells.list * m) size in
+        let known_same = same_known in
+        omega (arith, product, known_same)
+
+    same_left : left_after table.model.rows q (done_of after) ≡ left_in_cell idle
+    same_left = ap (left_after table.model.rows q) same_done
+
+    -- the uses that the next look takes
+    taken_is : take (length gathered.places.list) (left_after table.model.rows q (done_of after)) ≡ taken
+    taken_is =
+        ap (λ n. take n (left_after table.model.rows q (done_of after))) long
+        ∙ ap (take (length taken)) same_left
+        ∙ sym (front_taken (left_in_cell idle) taken (uses_ahead table.model.rows after.ahead) (left_is none ∙ front))
+
+    is_gathered : IsGathered table (left_after table.model.rows q (done_of after)) gathered
+    is_gathered =
+        let empty = nothing_gathered none in
+        record {
+          of = subst (λ t. IsRoundOf table t gathered) (sym taken_is) of;
+          taken = subst (IsTaken table (left_after table.model.rows q (done_of after))) (sym taken_is) (subst (λ l. IsTaken table l taken) (sym (same_left ∙ left_is none)) whole);
+          no_found = ap (λ (s : Stack (Option Verdict)). s.list) found ∙ empty.found;
+          no_values = ap (λ (s : Stack Verdict). s.list) values ∙ empty.values;
+        }
+
+    ahead_by : IsAheadBy table.model.rows q after (length gathered.places.list)
+    ahead_by =
+        let by = none_yet none in
+        let all = uses_at table.model.rows q (length course.cells.list) in
+        let k = length course.known.list in
+        let cut : drop (k + 0) all ≡ taken ++ uses_ahead table.model.rows after.ahead = sym by.ahead ∙ front in
+        let rest : drop (length taken) (drop (k + 0) all) ≡ uses_ahead table.model.rows after.ahead = ap (drop (length taken)) cut ∙ drop-append_seam taken (uses_ahead table.model.rows after.ahead) in
+        let left : length (drop (k + 0) all) ≡ length all - (k + 0) = length-drop (k + 0) all in
+        let parts : length (drop (k + 0) all) ≡ length taken + length (uses_ahead table.model.rows after.ahead) = ap (λ (l : List Use). length l) cut ∙ length-append taken (uses_ahead table.model.rows after.ahead) in
+        let within = by.within in
+        let places = long in
+        let known_same = same_known in
+        let sum : (k + 0) + length taken ≡ length after.known.list + length gathered.places.list = omega (arith, known_same, places) in
+        record {
+          ahead = sym rest ∙ drop-drop (length taken) (k + 0) all ∙ ap (λ n. drop n all) sum ∙ ap (λ c. drop (length after.known.list + length gathered.places.list) (uses_at table.model.rows q c)) (sym same_cells);
+          within = subst (λ c. length after.known.list + length gathered.places.list ≤ length (uses_at table.model.rows q c)) (sym same_cells) (omega (arith, sum, left, parts, within));
+        }
+
+    -- contracts see no change
+    pub seen_gathered : facts_of book table q live after gathered stage.Idle ≡ idle
+    seen_gathered =
+        let empty = nothing_gathered none in
+        let now = is_gathered in
+        let wanted = no_wanted_yet gathered now.no_found now.no_values ∙ sym (no_wanted_yet round empty.found empty.values) in
+        let fresh = ap (λ vs. fresh_entries vs gathered.keys.list gathered.found.list) now.no_values ∙ sym (ap (λ vs. fresh_entries vs round.keys.list round.found.list) empty.values) in
+        λ i. record {
+          opening = book.opening;
+          log = book.log;
+          table = table;
+          question = q;
+          live = live;
+          done = same_done i;
+          taken = [];
+          wanted = wanted i;
+          fresh = fresh i;
+          stage = stage.Idle;
+        }
+
+    pub run_gathers : IsRun (facts_of book table q live after gathered stage.Idle) after gathered × IsGathered table (left_in_cell (facts_of book table q live after gathered stage.Idle)) gathered
+    run_gathers = (
+      record {
+        running = subst IsRunning (sym seen_gathered) is.running;
+        course_is = course_ahead table.model.rows q course after is.course_is count size cells known room ahead;
+        ahead = ahead_by;
+        going = λ inside. (
+            let g = is.going (let same = same_cells in omega (arith, inside, same, count)) in
+            let same = same_known in omega (arith, g, same, size));
+        room = has_room;
+        round_is = inr is_gathered;
+      },
+      is_gathered,
+    )
+
+  -- a round that has uses has gathered them
+  gathered_already : round.places.list ≢ [] → IsGathered table (left_in_cell idle) round
+  gathered_already some = go is.round_is where
+    go : IsEmpty round ⊎ IsGathered table (left_in_cell idle) round → IsGathered table (left_in_cell idle) round
+    go (inl empty) = absurd (some empty.places)
+    go (inr gathered) = gathered
+
+  -- the course with other uses ahead
+  abbrev pub with_ahead : Ahead → Course
+  with_ahead ahead = record { count = course.count; size = course.size; cells = course.cells; known = course.known; room = course.room; ahead = ahead }
+
+  -- a run whose round has the uses that the next look takes, and of which contracts see no change
+  abbrev pub HasGathered : Round × Ahead → Type 0
+  HasGathered g = IsRun (facts_of book table q live (with_ahead g.1) g.0 stage.Idle) (with_ahead g.1) g.0
+      × IsGathered table (left_after table.model.rows q (done_of (with_ahead g.1))) g.0
+      × (facts_of book table q live (with_ahead g.1) g.0 stage.Idle ≡ idle)
+
+  pub has_gathered : (gathered : Round) (ahead : Ahead)
+      → (round.places.list ≡ [] → (taken : List Use) × IsTaken table (uses_ahead table.model.rows course.ahead) taken × IsRoundOf table taken gathered
+      × (uses_ahead table.model.rows course.ahead ≡ taken ++ uses_ahead table.model.rows ahead))
+      → (round.places.list ≢ [] → (gathered ≡ round) × (ahead ≡ course.ahead))
+      → (gathered.found ≡ round.found) × (gathered.values ≡ round.values) → HasRoom gathered → IsAhead table.model.rows ahead
+      → HasGathered (gathered, ahead)
+  has_gathered gathered ahead taken kept rest room is_ahead = go round.places.list refl where
+    go : (places : List ℕ) → round.places.list ≡ places → HasGathered (gathered, ahead)
+    go [] none =
+        let t = taken none in
+        let now = run_gathers (with_ahead ahead) gathered none t.0 t.1 t.2 t.3 refl refl refl refl refl is_ahead rest.0 rest.1 room in
+        (now.0, now.1, seen_gathered (with_ahead ahead) gathered none t.0 t.1 t.2 t.3 refl refl refl refl refl is_ahead rest.0 rest.1 room)
+    go (place ∷ places) some =
+        let there : round.places.list ≢ [] = λ none. absurd (let h : place ∷ places ≡ [] = sym some ∙ none in cc) in
+        let same = kept there in
+        let whole : (gathered, ahead) ≡ (round, course.ahead) = λ i. (same.0 i, same.1 i) in
+        subst HasGathered (sym whole) (is, gathered_already there, refl)
+
 -- ---- a look
 
-module _ (book : BookFacts) (table : Version) (q : Question) (live : Bool) (course after : Course) (round looked : Round) (entries : List Entry) (memo : MemoFacts) (taken : List Use)
+module _ (book : BookFacts) (table : Version) (q : Question) (live : Bool) (course : Course) (round looked_up : Round) (entries : List Entry)
     (is : IsRun (facts_of book table q live course round stage.Idle) course round)
-    (whole : IsTaken table (uses_ahead table.model.rows course.ahead) taken)
-    (has : IsTaking table entries taken looked memo)
-    (front : uses_ahead table.model.rows course.ahead ≡ taken ++ uses_ahead table.model.rows after.ahead)
-    (same_done : done_of after ≡ done_of course) where
-  abbrev pub old : RunFacts
-  old = facts_of book table q live course round stage.Idle
+    (gathered : IsGathered table (left_in_cell (facts_of book table q live course round stage.Idle)) round)
+    (found : looked_up.found.list ≡ map (λ key. verdict_of key entries) round.keys.list)
+    (keys : looked_up.keys ≡ round.keys) (places : looked_up.places ≡ round.places) (values : looked_up.values ≡ round.values) (has_room : HasRoom looked_up) where
+  abbrev pub before_look : RunFacts
+  before_look = facts_of book table q live course round stage.Idle
 
-  no_places : length round.places.list ≡ 0
-  no_places = ap (λ (l : List ℕ). length l) is.round_is.places
+  abbrev pub left_there : List Use
+  left_there = left_after table.model.rows q (done_of course)
 
-  by : IsAheadBy table.model.rows q course 0
-  by = subst (IsAheadBy table.model.rows q course) no_places is.ahead
+  same_places : length looked_up.places.list ≡ length round.places.list
+  same_places = ap (λ (s : Stack ℕ). length s.list) places
 
-  pub left_is : left_in_cell old ≡ uses_ahead table.model.rows course.ahead
-  left_is = idle_ahead table.model.rows q course is.course_is is.going by
+  same_keys : looked_up.keys.list ≡ round.keys.list
+  same_keys = ap (λ (s : Stack Key). s.list) keys
 
-  pub long : length looked.places.list ≡ length taken
-  long = picked_length looked.keys.list looked.places.list (use_key table) taken has.of.places
+  no_values : looked_up.values.list ≡ []
+  no_values = ap (λ (s : Stack Verdict). s.list) values ∙ gathered.no_values
 
   -- the uses that contracts see
-  pub taken_is : take (length looked.places.list) (left_after table.model.rows q (done_of after)) ≡ taken
-  taken_is =
-      ap (λ n. take n (left_after table.model.rows q (done_of after))) long
-      ∙ ap (λ n. take (length taken) (left_after table.model.rows q n)) same_done
-      ∙ sym (front_taken (left_in_cell old) taken (uses_ahead table.model.rows after.ahead) (left_is ∙ front))
+  pub taken_there : take (length looked_up.places.list) left_there ≡ take (length round.places.list) left_there
+  taken_there = ap (λ n. take n left_there) same_places
 
-  pub seen_taken : IsTaken table (left_in_cell old) (take (length looked.places.list) (left_after table.model.rows q (done_of after)))
-  seen_taken = subst (IsTaken table (left_in_cell old)) (sym taken_is) (subst (λ l. IsTaken table l taken) (sym left_is) whole)
+  pub seen_taken : IsTaken table left_there (take (length looked_up.places.list) left_there)
+  seen_taken = subst (IsTaken table left_there) (sym taken_there) gathered.taken
 
-  pub wanted_is : unfound looked.keys.list looked.found.list ≡ not_held (use_keys table taken) entries
-  wanted_is = ap (unfound looked.keys.list) has.found ∙ unfound_held looked.keys.list entries ∙ ap (λ l. not_held l entries) has.of.keys
+  pub keys_are : round.keys.list ≡ use_keys table (take (length looked_up.places.list) left_there)
+  keys_are = gathered.of.keys ∙ ap (use_keys table) (sym taken_there)
 
-  own_uses : AllByRecursion (Contains (question_uses table.model.rows q)) taken
-  own_uses = subst (AllByRecursion (Contains (question_uses table.model.rows q))) taken_is
-      (all_front _ (length looked.places.list) _ (all_front _ _ _ (all_dropped _ (done_of after) _ (all_own (question_uses table.model.rows q)))))
+  wanted_is : unfound looked_up.keys.list looked_up.found.list ≡ not_held (use_keys table (take (length looked_up.places.list) left_there)) entries
+  wanted_is = (λ i. unfound (same_keys i) (found i)) ∙ unfound_held round.keys.list entries ∙ ap (λ l. not_held l entries) keys_are
 
-  own_keys : AllByRecursion (IsOwnKey old) looked.keys.list
-  own_keys = subst (AllByRecursion (IsOwnKey old)) (sym has.of.keys)
-      (all_distinct (IsOwnKey old) (map (use_key table) taken)
-      (all_made (IsOwnKey old) (use_key table) taken (all_weaker _ (λ u. IsOwnKey old (use_key table u)) (λ u there. (u, there, refl)) taken own_uses)))
+  own_uses : AllByRecursion (Contains (question_uses table.model.rows q)) (take (length round.places.list) left_there)
+  own_uses = all_front _ (length round.places.list) _ (all_front _ _ _ (all_dropped _ (done_of course) _ (all_own (question_uses table.model.rows q))))
 
-  pub are_right : ((key : Key) (v : Verdict) → IsOwnKey old key → verdict_of key entries ≡ Some v → v ≡ key_verdict table.model.rows key)
-      → AreRight table.model.rows looked.keys.list looked.found.list
+  own_keys : AllByRecursion (IsOwnKey before_look) round.keys.list
+  own_keys = subst (AllByRecursion (IsOwnKey before_look)) (sym gathered.of.keys)
+      (all_distinct (IsOwnKey before_look) (map (use_key table) (take (length round.places.list) left_there))
+      (all_made (IsOwnKey before_look) (use_key table) (take (length round.places.list) left_there) (all_weaker _ (λ u. IsOwnKey before_look (use_key table u)) (λ u there. (u, there, refl)) (take (length round.places.list) left_there) own_uses)))
+
+  are_right : ((key : Key) (v : Verdict) → IsOwnKey before_look key → verdict_of key entries ≡ Some v → v ≡ key_verdict table.model.rows key)
+      → AreRight table.model.rows looked_up.keys.list looked_up.found.list
   are_right right =
-      subst (AreRight table.model.rows looked.keys.list) (sym has.found)
-      (right_found table.model.rows entries looked.keys.list
-      (all_weaker (IsOwnKey old) (λ key. (v : Verdict) → verdict_of key entries ≡ Some v → v ≡ key_verdict table.model.rows key) (λ key own v is_held. right key v own is_held) looked.keys.list own_keys))
+      subst (λ l. AreRight table.model.rows l looked_up.found.list) (sym same_keys) (subst (AreRight table.model.rows round.keys.list) (sym found)
+      (right_found table.model.rows entries round.keys.list
+      (all_weaker (IsOwnKey before_look) (λ key. (v : Verdict) → verdict_of key entries ≡ Some v → v ≡ key_verdict table.model.rows key) (λ key own v is_held. right key v own is_held) round.keys.list own_keys)))
 
-  pub ahead_by : length after.cells.list ≡ length course.cells.list → length after.known.list ≡ length course.known.list → IsAheadBy table.model.rows q after (length looked.places.list)
-  ahead_by cells known =
-      let all = uses_at table.model.rows q (length course.cells.list) in
-      let k = length course.known.list in
-      let cut : drop (k + 0) all ≡ taken ++ uses_ahead table.model.rows after.ahead = sym by.ahead ∙ front in
-      let zero_more : k + 0 ≡ k = omega arith in
-      let rest : drop (length taken) (drop (k + 0) all) ≡ uses_ahead table.model.rows after.ahead = ap (drop (length taken)) cut ∙ drop-append_seam taken (uses_ahead table.model.rows after.ahead) in
-      let left : length (drop (k + 0) all) ≡ length all - (k + 0) = length-drop (k + 0) all in
-      let parts : length (drop (k + 0) all) ≡ length taken + length (uses_ahead table.model.rows after.ahead) = ap (λ (l : List Use). length l) cut ∙ length-append taken (uses_ahead table.model.rows after.ahead) in
-      let within = by.within in
-      let places = long in
-      let sum : (k + 0) + length taken ≡ length after.known.list + length looked.places.list = omega (arith, known, places) in
+  still_wanted : wanted_keys looked_up.values.list looked_up.keys.list looked_up.found.list ≡ unfound looked_up.keys.list looked_up.found.list
+  still_wanted = ap (λ vs. wanted_keys vs looked_up.keys.list looked_up.found.list) no_values
+
+  none_fresh : fresh_entries looked_up.values.list looked_up.keys.list looked_up.found.list ≡ []
+  none_fresh = ap (λ vs. fresh_entries vs looked_up.keys.list looked_up.found.list) no_values
+
+  is_round_of : IsRoundOf table (take (length looked_up.places.list) left_there) looked_up
+  is_round_of =
+      let of = subst (λ t. IsRoundOf table t round) (sym taken_there) gathered.of in
       record {
-        ahead = sym rest ∙ drop-drop (length taken) (k + 0) all ∙ ap (λ n. drop n all) sum ∙ ap (λ c. drop (length after.known.list + length looked.places.list) (uses_at table.model.rows q c)) (sym cells);
-        within = subst (λ c. length after.known.list + length looked.places.list ≤ length (uses_at table.model.rows q c)) (sym cells) (omega (arith, sum, left, parts, within));
+        keys = same_keys ∙ of.keys;
+        places = (λ i. picked (same_keys i) (places i).list) ∙ of.places;
+        few = subst (λ (l : List Key). length l ≤ most_keys) (sym same_keys) of.few;
+        primitives = subst (AllByRecursion (IsPrimitiveKey table.model.rows)) (sym same_keys) of.primitives;
       }
 
-  still_wanted : looked.values.list ≡ [] → wanted_keys looked.values.list looked.keys.list looked.found.list ≡ unfound looked.keys.list looked.found.list
-  still_wanted none = ap (λ vs. wanted_keys vs looked.keys.list looked.found.list) none
+  pub is_ready : ((key : Key) (v : Verdict) → IsOwnKey before_look key → verdict_of key entries ≡ Some v → v ≡ key_verdict table.model.rows key)
+      → IsRun (facts_of book table q live course looked_up stage.Ready) course looked_up
+  is_ready right = record {
+    running = record {
+      accepted = is.running.accepted;
+      version = is.running.version;
+      lawful = is.running.lawful;
+      cells = is.running.cells;
+      not_refused = is.running.not_refused;
+      within = is.running.within;
+      at_stage = record {
+        some = λ none. gathered.taken.some (sym taken_there ∙ none);
+        next = taken_front (length looked_up.places.list) _ (drop (done_of course) (question_uses table.model.rows q));
+        wanted = λ key there. subst (λ l. Contains l key) (same_keys ∙ keys_are)
+            (unfound_there looked_up.keys.list looked_up.found.list key (subst (λ l. Contains l key) still_wanted there));
+        no_fresh = none_fresh;
+      };
+    };
+    course_is = is.course_is;
+    ahead = subst (IsAheadBy table.model.rows q course) (sym same_places) is.ahead;
+    going = is.going;
+    room = has_room;
+    round_is = (is_round_of, are_right right, no_values);
+  }
 
-  none_fresh : looked.values.list ≡ [] → fresh_entries looked.values.list looked.keys.list looked.found.list ≡ []
-  none_fresh none = ap (λ vs. fresh_entries vs looked.keys.list looked.found.list) none
-
-  pub running : looked.values.list ≡ [] → IsRunning (facts_of book table q live after looked stage.Ready)
-  running no_values =
-      let seen = facts_of book table q live after looked stage.Ready in
-      let same_uses = same_done in
-      record {
-        accepted = is.running.accepted;
-        version = is.running.version;
-        lawful = is.running.lawful;
-        cells = is.running.cells;
-        not_refused = is.running.not_refused;
-        within = subst (λ n. n ≤ length (question_uses table.model.rows q)) (sym same_done) is.running.within;
-        at_stage = record {
-          some = λ none. whole.some (sym taken_is ∙ none);
-          next = taken_front (length looked.places.list) _ (drop (done_of after) (question_uses table.model.rows q));
-          wanted = λ key there. subst (λ l. Contains l key) (has.of.keys ∙ ap (use_keys table) (sym taken_is))
-              (unfound_there looked.keys.list looked.found.list key (subst (λ l. Contains l key) (still_wanted no_values) there));
-          no_fresh = none_fresh no_values;
-        };
-      }
-
-  pub is_ready : ((key : Key) (v : Verdict) → IsOwnKey old key → verdict_of key entries ≡ Some v → v ≡ key_verdict table.model.rows key)
-      → after.count ≡ course.count → after.size ≡ course.size → after.cells ≡ course.cells → after.known ≡ course.known → after.room ≡ course.room → IsAhead table.model.rows after.ahead
-      → looked.values ≡ round.values → HasRoom looked
-      → IsRun (facts_of book table q live after looked stage.Ready) after looked
-  is_ready right count size cells known room ahead values has_room =
-      let no_values : looked.values.list ≡ [] = ap (λ (s : Stack Verdict). s.list) values ∙ is.round_is.values in
-      record {
-        running = running no_values;
-        course_is = course_ahead table.model.rows q course after is.course_is count size cells known room ahead;
-        ahead = ahead_by (ap (λ (s : Stack Verdict). length s.list) cells) (ap (λ (s : Stack Verdict). length s.list) known);
-        going = λ inside. (
-            let g = is.going (let same = ap (λ (s : Stack Verdict). length s.list) cells in omega (arith, inside, same, count)) in
-            let same = ap (λ (s : Stack Verdict). length s.list) known in omega (arith, g, same, size));
-        room = has_room;
-        round_is = (subst (λ t. IsRoundOf table t looked) (sym taken_is) has.of, are_right right, no_values);
-      }
-
-  pub looked_facts : looked.values ≡ round.values
-      → facts_of book table q live after looked stage.Ready ≡ with_taken old (take (length looked.places.list) (left_after table.model.rows q (done_of after))) entries
-  looked_facts values =
-      let no_values : looked.values.list ≡ [] = ap (λ (s : Stack Verdict). s.list) values ∙ is.round_is.values in
-      let no_fresh = none_fresh no_values in
-      let wanted : wanted_keys looked.values.list looked.keys.list looked.found.list ≡ not_held (use_keys table (take (length looked.places.list) (left_after table.model.rows q (done_of after)))) entries =
-      still_wanted no_values ∙ wanted_is ∙ ap (λ t. not_held (use_keys table t) entries) (sym taken_is) in
+  pub looked_facts : facts_of book table q live course looked_up stage.Ready ≡ with_taken before_look (take (length looked_up.places.list) left_there) entries
+  looked_facts =
+      let wanted = still_wanted ∙ wanted_is in
+      let fresh = none_fresh in
       λ i. record {
         opening = book.opening;
         log = book.log;
         table = table;
         question = q;
         live = live;
-        done = same_done i;
-        taken = take (length looked.places.list) (left_after table.model.rows q (done_of after));
+        done = done_of course;
+        taken = take (length looked_up.places.list) left_there;
         wanted = wanted i;
-        fresh = no_fresh i;
+        fresh = fresh i;
         stage = stage.Ready;
       }
-
-pub some_left : (book : BookFacts) (table : Version) (q : Question) (live : Bool) (course : Course) (round : Round) → IsRun (facts_of book table q live course round stage.Idle) course round
-    → uses_ahead table.model.rows course.ahead ≢ []
-some_left book table q live course round is =
-    let no_places : length round.places.list ≡ 0 = ap (λ (l : List ℕ). length l) is.round_is.places in
-    let left = is.running.at_stage.1 in
-    let all = all_length table.model.rows q course is.course_is in
-    some_ahead table.model.rows q course is.course_is is.going (subst (IsAheadBy table.model.rows q course) no_places is.ahead) (omega (arith, left, all))
 
 -- ---- a beginning
 
@@ -200,7 +347,7 @@ positive_product (suc a) b h k = omega (arith, k)
 between : (book : BookFacts) (table : Version) (q : Question) (live : Bool) (course : Course) (round : Round) (s : Stage) → IsEmpty round
     → IsBetween (facts_of book table q live course round s)
 between book table q live course round s empty = record {
-  no_taken = ap (λ (l : List ℕ). take (length l) (left_after table.model.rows q (done_of course))) empty.places;
+  no_taken = none_seen s round.places.list (left_after table.model.rows q (done_of course)) empty.places;
   no_wanted = ap (λ vs. wanted_keys vs round.keys.list round.found.list) empty.values ∙ ap (λ (l : List Key). unfound l round.found.list) empty.keys;
   no_fresh = ap (λ vs. fresh_entries vs round.keys.list round.found.list) empty.values;
 }
@@ -228,7 +375,7 @@ run_begins book table q live course round accepted version lawful cells unrefuse
       ahead = subst (IsAheadBy table.model.rows q course) (sym no_places) by;
       going = going;
       room = room;
-      round_is = empty;
+      round_is = inl empty;
     }
 
 -- ---- a fill
@@ -254,7 +401,7 @@ module _ (book : BookFacts) (table : Version) (q : Question) (live : Bool) (cour
         stage = at i;
       })
 
-  with_stage : (t : Stage) → IsAtStage (facts_of book table q live course after t) t → IsRoundAt table (facts_of book table q live course after t).taken after t → IsRun (facts_of book table q live course after t) course after
+  with_stage : (t : Stage) → IsAtStage (facts_of book table q live course after t) t → IsRoundAt table (left_in_cell (facts_of book table q live course after t)) (facts_of book table q live course after t).taken after t → IsRun (facts_of book table q live course after t) course after
   with_stage t at_stage round_is = record {
     running = record {
       accepted = is.running.accepted;
@@ -274,7 +421,7 @@ module _ (book : BookFacts) (table : Version) (q : Question) (live : Bool) (cour
 
   go : (n : ℕ) → left_of before_fill ≡ n → IsRun (facts_of book table q live course after (next_stage n)) course after
   go zero none = with_stage stage.Done (between book table q live course after stage.Done empty, none) empty
-  go (suc n) some = with_stage stage.Idle (between book table q live course after stage.Idle empty, omega (arith, some)) empty
+  go (suc n) some = with_stage stage.Idle (between book table q live course after stage.Idle empty, omega (arith, some)) (inl empty)
 
   pub run_settles : (s : Stage) → s ≡ next_stage (left_of before_fill)
       → IsRun (facts_of book table q live course after s) course after × (facts_of book table q live course after s ≡ settled before_fill)

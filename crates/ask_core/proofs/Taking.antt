@@ -3,15 +3,13 @@ use Rattle.std.proofs.Common.{◌≡◌, ℕ, zero, suc, ◌+◌, ◌<◌, ◌�
 use Rattle.std.specs.List.{filter, AllByRecursion}
 use Rattle.std.proofs.lemmas.List.{map-append}
 use Rattle.std.proofs.lemmas.List.Elements.{filter-append}
-use Rattle.solid_base.specs.declared.classes.Verdict.{Verdict}
 use Rattle.solid_eval.specs.Uses.{Use}
 use Rattle.memo_graph.specs.declared.key.Key.{Key}
-use Rattle.memo_graph.specs.Memos.{Entry, MemoFacts, same_key, promoted, verdict_of}
+use Rattle.memo_graph.specs.Memos.{same_key}
 use Rattle.memo_graph.proofs.Keys.{same_key_exact, different_keys}
-use Rattle.memo_graph.proofs.Keeping.{verdicts-promoted}
 use Rattle.edit_core.specs.Versions.{Version}
-use Rattle.ask_core.specs.Runs.{use_key, use_keys, distinct, looked, most_keys}
-use Rattle.ask_core.specs.Rounds.{picked, IsPrimitiveKey, IsTaking}
+use Rattle.ask_core.specs.Runs.{use_key, use_keys, distinct, most_keys}
+use Rattle.ask_core.specs.Rounds.{picked, IsPrimitiveKey, IsRoundOf}
 use Rattle.ask_core.specs.declared.rounds.Round.{Round}
 use Rattle.ask_core.proofs.Picked.{grown_picked, last_get}
 
@@ -93,16 +91,6 @@ module _ (version : Version) where
   more_keys taken u keys is none =
       sym (keys_with taken u keys is ∙ ap (λ b. keys ++ cond b [] (use_key version u ∷ [])) (not_in keys (use_key version u) none))
 
--- ---- looks
-
-looked_more : (keys : List Key) (key : Key) (entries : List Entry) → looked (keys ++ key ∷ []) entries ≡ promoted key (looked keys entries)
-looked_more [] key entries = refl
-looked_more (k ∷ keys) key entries = looked_more keys key (promoted k entries)
-
-looked_verdict : (keys : List Key) (key : Key) (entries : List Entry) → verdict_of key (looked keys entries) ≡ verdict_of key entries
-looked_verdict [] key entries = refl
-looked_verdict (k ∷ keys) key entries = looked_verdict keys key (promoted k entries) ∙ verdicts-promoted k key entries
-
 -- ---- a round with one use more
 
 place_added : (version : Version) (taken : List Use) (u : Use) (keys : List Key) (places : List ℕ) (n : ℕ) → picked keys places ≡ map (λ u. Some (use_key version u)) taken
@@ -113,50 +101,35 @@ place_added version taken u keys places n is there =
     ∙ ap (λ o. map (λ u. Some (use_key version u)) taken ++ o ∷ []) there
     ∙ sym (map-append (λ u. Some (use_key version u)) taken (u ∷ []))
 
-pub held_taken : (version : Version) (entries : List Entry) (taken : List Use) (u : Use) (old new : Round) (memo after : MemoFacts) (n : ℕ)
-    → IsTaking version entries taken old memo → slice_get old.keys.list n ≡ Some (use_key version u)
-    → new.keys.list ≡ old.keys.list → new.found.list ≡ old.found.list → new.places.list ≡ old.places.list ++ n ∷ [] → after.entries ≡ memo.entries
-    → IsTaking version entries (taken ++ u ∷ []) new after
-held_taken version entries taken u old new memo after n is there keys found places entries_same = record {
-  of = record {
-    keys = keys ∙ same_keys version taken u old.keys.list n is.of.keys there;
-    places = ap (λ l. picked l new.places.list) keys ∙ ap (picked old.keys.list) places ∙ place_added version taken u old.keys.list old.places.list n is.of.places there;
-    few = subst (λ (l : List Key). length l ≤ most_keys) (sym keys) is.of.few;
-    each = ap (λ (l : List (Option Verdict)). length l) found ∙ is.of.each ∙ ap (λ (l : List Key). length l) (sym keys);
-    primitives = subst (AllByRecursion (IsPrimitiveKey version.model.rows)) (sym keys) is.of.primitives;
-  };
-  found = found ∙ is.found ∙ ap (map (λ key. verdict_of key entries)) (sym keys);
-  after = entries_same ∙ is.after ∙ ap (λ l. looked l entries) (sym keys);
+pub held_taken : (version : Version) (taken : List Use) (u : Use) (old new : Round) (n : ℕ)
+    → IsRoundOf version taken old → slice_get old.keys.list n ≡ Some (use_key version u)
+    → new.keys.list ≡ old.keys.list → new.places.list ≡ old.places.list ++ n ∷ []
+    → IsRoundOf version (taken ++ u ∷ []) new
+held_taken version taken u old new n is there keys places = record {
+  keys = keys ∙ same_keys version taken u old.keys.list n is.keys there;
+  places = ap (λ l. picked l new.places.list) keys ∙ ap (picked old.keys.list) places ∙ place_added version taken u old.keys.list old.places.list n is.places there;
+  few = subst (λ (l : List Key). length l ≤ most_keys) (sym keys) is.few;
+  primitives = subst (AllByRecursion (IsPrimitiveKey version.model.rows)) (sym keys) is.primitives;
 }
 
 all_with : {X : Type 0} (P : X → Type 0) (xs : List X) (x : X) → AllByRecursion P xs → P x → AllByRecursion P (xs ++ x ∷ [])
 all_with P [] x h p = (p, tt)
 all_with P (y ∷ xs) x h p = (h.0, all_with P xs x h.1 p)
 
-pub new_taken : (version : Version) (entries : List Entry) (taken : List Use) (u : Use) (old new : Round) (memo after : MemoFacts)
-    → IsTaking version entries taken old memo → ¬ Contains old.keys.list (use_key version u) → length old.keys.list < most_keys → IsPrimitiveKey version.model.rows (use_key version u)
-    → new.keys.list ≡ old.keys.list ++ use_key version u ∷ [] → new.found.list ≡ old.found.list ++ verdict_of (use_key version u) memo.entries ∷ []
-    → new.places.list ≡ old.places.list ++ length old.keys.list ∷ [] → after.entries ≡ promoted (use_key version u) memo.entries
-    → IsTaking version entries (taken ++ u ∷ []) new after
-new_taken version entries taken u old new memo after is none less primitive keys found places promoted_is =
+pub new_taken : (version : Version) (taken : List Use) (u : Use) (old new : Round)
+    → IsRoundOf version taken old → ¬ Contains old.keys.list (use_key version u) → length old.keys.list < most_keys → IsPrimitiveKey version.model.rows (use_key version u)
+    → new.keys.list ≡ old.keys.list ++ use_key version u ∷ [] → new.places.list ≡ old.places.list ++ length old.keys.list ∷ []
+    → IsRoundOf version (taken ++ u ∷ []) new
+new_taken version taken u old new is none less primitive keys places =
     let key = use_key version u in
     let long : length new.keys.list ≡ length old.keys.list + 1 = ap (λ (l : List Key). length l) keys ∙ length-append old.keys.list (key ∷ []) in
-    let long_found : length new.found.list ≡ length old.found.list + 1 = ap (λ (l : List (Option Verdict)). length l) found ∙ length-append old.found.list (verdict_of key memo.entries ∷ []) in
-    let each = is.of.each in
-    let looked_for : verdict_of key memo.entries ≡ verdict_of key entries = ap (verdict_of key) is.after ∙ looked_verdict old.keys.list key entries in
     record {
-      of = record {
-        keys = keys ∙ more_keys version taken u old.keys.list is.of.keys none;
-        places = ap (λ l. picked l new.places.list) keys ∙ ap (picked (old.keys.list ++ key ∷ [])) places
-            ∙ place_added version taken u (old.keys.list ++ key ∷ []) old.places.list (length old.keys.list)
-            (grown_picked old.keys.list (key ∷ []) old.places.list (use_key version) taken is.of.places) (last_get old.keys.list key);
-        few = omega (arith, long, less);
-        each = omega (arith, long, long_found, each);
-        primitives = subst (AllByRecursion (IsPrimitiveKey version.model.rows)) (sym keys) (all_with (IsPrimitiveKey version.model.rows) old.keys.list key is.of.primitives primitive);
-      };
-      found = found ∙ ap (λ o. old.found.list ++ o ∷ []) looked_for ∙ ap (λ l. l ++ verdict_of key entries ∷ []) is.found
-          ∙ sym (map-append (λ key. verdict_of key entries) old.keys.list (key ∷ [])) ∙ ap (map (λ key. verdict_of key entries)) (sym keys);
-      after = promoted_is ∙ ap (promoted key) is.after ∙ sym (looked_more old.keys.list key entries) ∙ ap (λ l. looked l entries) (sym keys);
+      keys = keys ∙ more_keys version taken u old.keys.list is.keys none;
+      places = ap (λ l. picked l new.places.list) keys ∙ ap (picked (old.keys.list ++ key ∷ [])) places
+          ∙ place_added version taken u (old.keys.list ++ key ∷ []) old.places.list (length old.keys.list)
+          (grown_picked old.keys.list (key ∷ []) old.places.list (use_key version) taken is.places) (last_get old.keys.list key);
+      few = omega (arith, long, less);
+      primitives = subst (AllByRecursion (IsPrimitiveKey version.model.rows)) (sym keys) (all_with (IsPrimitiveKey version.model.rows) old.keys.list key is.primitives primitive);
     }
 
 pub one_too_many : (version : Version) (taken : List Use) (u : Use) (keys : List Key) → keys ≡ use_keys version taken → most_keys ≤ length keys → ¬ Contains keys (use_key version u)

@@ -12,11 +12,10 @@ use Rattle.fixed_enclosure.specs.Spans.{Span, Every, Between, enc_span}
 use Rattle.solid_eval.specs.Solids.{IsPrimitiveRow}
 use Rattle.solid_eval.specs.Uses.{Use, use_verdict}
 use Rattle.memo_graph.specs.declared.key.Key.{Key}
-use Rattle.memo_graph.specs.Memos.{Entry, MemoFacts}
 use Rattle.edit_core.specs.Versions.{Version}
 use Rattle.ask_core.specs.Books.{key_verdict}
 use Rattle.ask_core.specs.Runs.{use_key, use_keys, stamp_in, or_zero, enc_of, box_of_spans, most_keys, most_uses, IsTaken, Stops}
-use Rattle.ask_core.specs.Rounds.{use_of, uses_ahead, IsTaking, HasTaken}
+use Rattle.ask_core.specs.Rounds.{use_of, uses_ahead, IsRoundOf, HasTaken}
 use Rattle.ask_core.specs.declared.course.Ahead.{Ahead}
 use Rattle.ask_core.specs.declared.rounds.Round.{Round}
 use Rattle.ask_core.proofs.Picked.{picked_length}
@@ -51,10 +50,10 @@ primitive_there rows n h = go (is_number rows n) where
 
 -- ---- what a round has taken
 
-pub one_use_taken : (version : Version) (entries : List Entry) (left : List Use) (old new : Ahead) (round after : Round) (memo looked : MemoFacts) (u : Use) (rest : List Use)
-    → (has : HasTaken version entries left old round memo) → uses_ahead version.model.rows old ≡ u ∷ rest → uses_ahead version.model.rows new ≡ rest
-    → IsTaking version entries (has.taken ++ u ∷ []) after looked → HasTaken version entries left new after looked
-one_use_taken version entries left old new round after memo looked u rest has next passed is = record {
+pub one_use_taken : (version : Version) (left : List Use) (old new : Ahead) (round after : Round) (u : Use) (rest : List Use)
+    → (has : HasTaken version left old round) → uses_ahead version.model.rows old ≡ u ∷ rest → uses_ahead version.model.rows new ≡ rest
+    → IsRoundOf version (has.taken ++ u ∷ []) after → HasTaken version left new after
+one_use_taken version left old new round after u rest has next passed is = record {
   taken = has.taken ++ u ∷ [];
   front = has.front ∙ ap (λ l. has.taken ++ l) next ∙ ap (λ l. has.taken ++ u ∷ l) (sym passed) ∙ sym (append_assoc has.taken (u ∷ []) (uses_ahead version.model.rows new));
   is = is;
@@ -66,16 +65,16 @@ nothing_taken version left some taken (u ∷ rest) front (inl all) none = (let h
 nothing_taken version left some taken (u ∷ rest) front (inr more) none =
     (let h : length (use_keys version (taken ++ u ∷ [])) ≡ 1 = ap (λ (l : List Use). length (use_keys version (l ++ u ∷ []))) none in absurd (omega (arith, h, more)))
 
-pub taken_whole : (version : Version) (entries : List Entry) (left : List Use) (ahead : Ahead) (round : Round) (memo : MemoFacts) → left ≢ []
-    → (has : HasTaken version entries left ahead round memo) → length round.places.list ≤ most_uses → Stops version has.taken (uses_ahead version.model.rows ahead)
+pub taken_whole : (version : Version) (left : List Use) (ahead : Ahead) (round : Round) → left ≢ []
+    → (has : HasTaken version left ahead round) → length round.places.list ≤ most_uses → Stops version has.taken (uses_ahead version.model.rows ahead)
     → IsTaken version left has.taken
-taken_whole version entries left ahead round memo some has few stops =
-    let long = picked_length round.keys.list round.places.list (use_key version) has.taken has.is.of.places in
+taken_whole version left ahead round some has few stops =
+    let long = picked_length round.keys.list round.places.list (use_key version) has.taken has.is.places in
     record {
       rest = uses_ahead version.model.rows ahead;
       front = has.front;
       some = nothing_taken version left some has.taken (uses_ahead version.model.rows ahead) has.front stops;
       few_uses = omega (arith, long, few);
-      few_keys = subst (λ (l : List Key). length l ≤ most_keys) has.is.of.keys has.is.of.few;
+      few_keys = subst (λ (l : List Key). length l ≤ most_keys) has.is.keys has.is.few;
       stops = stops;
     }

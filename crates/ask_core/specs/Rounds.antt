@@ -17,11 +17,11 @@ use Rattle.solid_questions.specs.declared.questions.Question.{Question}
 use Rattle.solid_questions.specs.Questions.{entity_of}
 use Rattle.solid_questions.specs.QuestionCells.{all_cells, cell_count}
 use Rattle.memo_graph.specs.declared.key.Key.{Key}
-use Rattle.memo_graph.specs.Memos.{Entry, MemoFacts, verdict_of}
+use Rattle.memo_graph.specs.Memos.{Entry}
 use Rattle.edit_core.specs.Versions.{Version}
 use Rattle.ask_core.specs.Answers.{cell_verdict}
 use Rattle.ask_core.specs.Books.{key_verdict}
-use Rattle.ask_core.specs.Runs.{cell_uses, use_key, use_keys, looked, most_keys, most_uses}
+use Rattle.ask_core.specs.Runs.{cell_uses, use_key, use_keys, most_keys, most_uses, IsTaken}
 use Rattle.ask_core.specs.declared.course.Ahead.{Ahead}
 use Rattle.ask_core.specs.declared.course.Course.{Course}
 use Rattle.ask_core.specs.declared.rounds.Round.{Round}
@@ -143,15 +143,7 @@ pub record IsRoundOf (version : Version) (taken : List Use) (round : Round) : Ty
   pub keys : round.keys.list ≡ use_keys version taken
   pub places : picked round.keys.list round.places.list ≡ map (λ u. Some (use_key version u)) taken
   pub few : length round.keys.list ≤ most_keys
-  pub each : length round.found.list ≡ length round.keys.list
   pub primitives : AllByRecursion (IsPrimitiveKey version.model.rows) round.keys.list
-
--- solidd's own: a round took these uses, by the entries that a memo held
-pub record IsTaking (version : Version) (entries : List Entry) (taken : List Use) (round : Round)
-    (memo : MemoFacts) : Type 0 where
-  pub of : IsRoundOf version taken round
-  pub found : round.found.list ≡ map (λ key. verdict_of key entries) round.keys.list
-  pub after : memo.entries ≡ looked round.keys.list entries
 
 -- a round that has nothing
 pub record IsEmpty (round : Round) : Type 0 where
@@ -168,8 +160,16 @@ pub record HasVerdicts (round : Round) : Type 0 where
 
 -- solidd's own: of the uses that were left in a cell a round has the first, and the others are
 -- ahead
-pub record HasTaken (version : Version) (entries : List Entry) (left : List Use) (ahead : Ahead)
-    (round : Round) (memo : MemoFacts) : Type 0 where
+pub record HasTaken (version : Version) (left : List Use) (ahead : Ahead) (round : Round)
+    : Type 0 where
   pub taken : List Use
   pub front : left ≡ taken ++ uses_ahead version.model.rows ahead
-  pub is : IsTaking version entries taken round memo
+  pub is : IsRoundOf version taken round
+
+-- solidd's own: of the uses that are left in a cell a round has those that the next look takes, and
+-- none of their keys was looked for
+pub record IsGathered (version : Version) (left : List Use) (round : Round) : Type 0 where
+  pub of : IsRoundOf version (take (length round.places.list) left) round
+  pub taken : IsTaken version left (take (length round.places.list) left)
+  pub no_found : round.found.list ≡ []
+  pub no_values : round.values.list ≡ []

@@ -8,13 +8,13 @@ ghost use Rattle.solid_base.specs.Ranges.{IsLawfulRow};
 ghost use Rattle.solid_base.specs.References.{row_at};
 ghost use Rattle.solid_eval.specs.Solids.{IsPrimitiveRow};
 ghost use Rattle.solid_eval.specs.Uses.{Use};
-ghost use Rattle.memo_graph.specs.Memos.{Entry, IsMemo, verdict_of, promoted};
+ghost use Rattle.memo_graph.specs.Memos.{IsMemo, verdict_of};
 ghost use Rattle.edit_core.specs.Versions.{Version};
 ghost use Rattle.ask_core.specs.Books.{key_verdict};
-ghost use Rattle.ask_core.specs.Runs.{use_key, use_keys, kept_all, most_keys, most_uses, IsTaken};
-ghost use Rattle.ask_core.specs.Runs.{Stops};
+ghost use Rattle.ask_core.specs.Runs.{use_key, use_keys, looked, kept_all, most_keys, most_uses};
+ghost use Rattle.ask_core.specs.Runs.{IsTaken, Stops};
 ghost use Rattle.ask_core.specs.Rounds.{uses_ahead, IsAhead, IsPrimitiveKey, unfound, AreRight};
-ghost use Rattle.ask_core.specs.Rounds.{picked, fresh_entries, HasRoom, IsTaking, HasTaken};
+ghost use Rattle.ask_core.specs.Rounds.{picked, fresh_entries, HasRoom, IsRoundOf, HasTaken};
 ghost use Rattle.ask_core.specs.Rounds.{IsEmpty};
 
 use crate::course::Ahead;
@@ -61,51 +61,42 @@ impl Round {
         Ok(round)
     }
 
-    /// Looks for a new key, and answers its place.
-    fn add(&mut self, key: &HashedKey, memo: &mut Memo) -> u8
+    /// Adds a new key, and answers its place.
+    fn add(&mut self, key: &HashedKey) -> u8
         requires room { HasRoom self.old }
         requires few { length self.old.keys.list < most_keys }
-        requires each { length self.old.found.list ≡ length self.old.keys.list }
         ensures place { result ≡ length self.old.keys.list }
         ensures keys { self.new.keys.list ≡ self.old.keys.list ++ key.now ∷ [] }
-        ensures found { self.new.found.list
-            ≡ self.old.found.list ++ verdict_of key.now memo.old.entries ∷ [] }
-        ensures entries { memo.new.entries ≡ promoted key.now memo.old.entries }
-        ensures capacity { memo.new.capacity ≡ memo.old.capacity }
-        ensures rest { (self.new.places ≡ self.old.places) × (self.new.values ≡ self.old.values) }
+        ensures places { self.new.places ≡ self.old.places }
+        ensures rest { (self.new.found ≡ self.old.found) × (self.new.values ≡ self.old.values) }
         ensures room { HasRoom self.new }
     {
         let place = self.keys.len() as u8;
         self.keys.push(key);
-        self.found.push(memo.look(key)).unwrap();
         place
     }
 
     /// Takes a use by its key, unless that is one key too many.
-    fn take(&mut self, key: &HashedKey, memo: &mut Memo) -> bool
+    fn take(&mut self, key: &HashedKey) -> bool
         requires room { HasRoom self.old }
         requires few { length self.old.places.list < most_uses }
         requires few_keys { length self.old.keys.list ≤ most_keys }
-        requires each { length self.old.found.list ≡ length self.old.keys.list }
-        ensures taken { (version : Version) (entries : List Entry) (taken : List Use) (u : Use) →
+        ensures taken { (version : Version) (taken : List Use) (u : Use) →
             use_key version u ≡ key.now → IsPrimitiveKey version.model.rows key.now →
-            IsTaking version entries taken self.old memo.old → result ≡ true →
-            IsTaking version entries (taken ++ u ∷ []) self.new memo.new }
-        ensures full { (version : Version) (entries : List Entry) (taken : List Use) (u : Use) →
-            use_key version u ≡ key.now →
-            IsTaking version entries taken self.old memo.old → result ≡ false →
+            IsRoundOf version taken self.old → result ≡ true →
+            IsRoundOf version (taken ++ u ∷ []) self.new }
+        ensures full { (version : Version) (taken : List Use) (u : Use) →
+            use_key version u ≡ key.now → IsRoundOf version taken self.old → result ≡ false →
             most_keys < length (use_keys version (taken ++ u ∷ [])) }
-        ensures unchanged { result ≡ false →
-            (self.new ≡ self.old) × (memo.new.entries ≡ memo.old.entries) }
+        ensures unchanged { result ≡ false → self.new ≡ self.old }
         ensures one { result ≡ true →
             length self.new.places.list ≡ length self.old.places.list + 1 }
-        ensures capacity { memo.new.capacity ≡ memo.old.capacity }
-        ensures values { self.new.values ≡ self.old.values }
+        ensures rest { (self.new.found ≡ self.old.found) × (self.new.values ≡ self.old.values) }
         ensures room { HasRoom self.new }
     {
         let place = match self.keys.place_of(key) {
             Some(place) => place,
-            None if self.keys.len() < MOST_KEYS => self.add(key, memo),
+            None if self.keys.len() < MOST_KEYS => self.add(key),
             None => return false,
         };
         self.places.push(place).unwrap();
@@ -114,27 +105,23 @@ impl Round {
 
     /// Takes the next use of a cell, unless there is none, the round has the most uses, or its key
     /// is one too many.
-    fn take_next(&mut self, table: &Table, ahead: &mut Ahead, memo: &mut Memo) -> bool
+    fn take_next(&mut self, table: &Table, ahead: &mut Ahead) -> bool
         requires room { HasRoom self.old }
         requires few { length self.old.places.list ≤ most_uses }
         requires few_keys { length self.old.keys.list ≤ most_keys }
-        requires each { length self.old.found.list ≡ length self.old.keys.list }
         requires ahead { IsAhead table.now.model.rows ahead.old }
         requires primitives { AllByRecursion (λ u. IsPrimitiveRow
             (row_at table.now.model.rows u.number)) (uses_ahead table.now.model.rows ahead.old) }
-        ensures taken { (entries : List Entry) (left : List Use) →
-            HasTaken table.now entries left ahead.old self.old memo.old → result ≡ true →
-            HasTaken table.now entries left ahead.new self.new memo.new }
-        ensures stops { (entries : List Entry) (taken : List Use) →
-            IsTaking table.now entries taken self.old memo.old → result ≡ false →
-            Stops table.now taken (uses_ahead table.now.model.rows ahead.old) }
-        ensures unchanged { result ≡ false → (self.new ≡ self.old) × (ahead.new ≡ ahead.old)
-            × (memo.new.entries ≡ memo.old.entries) }
+        ensures taken { (left : List Use) → HasTaken table.now left ahead.old self.old →
+            result ≡ true → HasTaken table.now left ahead.new self.new }
+        ensures stops { (taken : List Use) → IsRoundOf table.now taken self.old →
+            result ≡ false → Stops table.now taken (uses_ahead table.now.model.rows ahead.old) }
+        ensures unchanged { result ≡ false →
+            (self.new ≡ self.old) × (ahead.new ≡ ahead.old) }
         ensures one { result ≡ true →
             length self.new.places.list ≡ length self.old.places.list + 1 }
         ensures few { length self.new.places.list ≤ most_uses }
-        ensures capacity { memo.new.capacity ≡ memo.old.capacity }
-        ensures values { self.new.values ≡ self.old.values }
+        ensures rest { (self.new.found ≡ self.old.found) × (self.new.values ≡ self.old.values) }
         ensures room { HasRoom self.new }
         ensures ahead { IsAhead table.now.model.rows ahead.new }
         ensures primitives { AllByRecursion (λ u. IsPrimitiveRow
@@ -148,15 +135,15 @@ impl Round {
         }
         table.obeys();
         let key = HashedKey::new(de, table.stamp(de), &ahead.at);
-        let taken = self.take(&key, memo);
+        let taken = self.take(&key);
         if taken {
             ahead.pass(table.rows());
         }
         taken
     }
 
-    /// Takes uses of a cell, in order, and looks once for each key.
-    pub(crate) fn take_uses(&mut self, table: &Table, ahead: &mut Ahead, memo: &mut Memo)
+    /// Takes uses of a cell, in order, with their keys.
+    fn take_uses(&mut self, table: &Table, ahead: &mut Ahead)
         requires room { HasRoom self.old }
         requires empty { IsEmpty self.old }
         requires ahead { IsAhead table.now.model.rows ahead.old }
@@ -165,15 +152,55 @@ impl Round {
         requires some { uses_ahead table.now.model.rows ahead.old ≢ [] }
         ensures taken { (taken : List Use) ×
             IsTaken table.now (uses_ahead table.now.model.rows ahead.old) taken
-            × IsTaking table.now memo.old.entries taken self.new memo.new
+            × IsRoundOf table.now taken self.new
             × (uses_ahead table.now.model.rows ahead.old
             ≡ taken ++ uses_ahead table.now.model.rows ahead.new) }
-        ensures capacity { memo.new.capacity ≡ memo.old.capacity }
-        ensures values { self.new.values ≡ self.old.values }
+        ensures rest { (self.new.found ≡ self.old.found) × (self.new.values ≡ self.old.values) }
         ensures room { HasRoom self.new }
         ensures ahead { IsAhead table.now.model.rows ahead.new }
     {
-        while self.take_next(table, ahead, memo) {}
+        while self.take_next(table, ahead) {}
+    }
+
+    /// Takes uses of a cell, unless the round has some.
+    pub(crate) fn gather(&mut self, table: &Table, ahead: &mut Ahead)
+        requires room { HasRoom self.old }
+        requires empty { self.old.places.list ≡ [] → IsEmpty self.old }
+        requires ahead { IsAhead table.now.model.rows ahead.old }
+        requires primitives { AllByRecursion (λ u. IsPrimitiveRow
+            (row_at table.now.model.rows u.number)) (uses_ahead table.now.model.rows ahead.old) }
+        requires some { self.old.places.list ≡ [] →
+            uses_ahead table.now.model.rows ahead.old ≢ [] }
+        ensures taken { self.old.places.list ≡ [] → (taken : List Use) ×
+            IsTaken table.now (uses_ahead table.now.model.rows ahead.old) taken
+            × IsRoundOf table.now taken self.new
+            × (uses_ahead table.now.model.rows ahead.old
+            ≡ taken ++ uses_ahead table.now.model.rows ahead.new) }
+        ensures kept { self.old.places.list ≢ [] →
+            (self.new ≡ self.old) × (ahead.new ≡ ahead.old) }
+        ensures rest { (self.new.found ≡ self.old.found) × (self.new.values ≡ self.old.values) }
+        ensures room { HasRoom self.new }
+        ensures ahead { IsAhead table.now.model.rows ahead.new }
+    {
+        if self.places.is_empty() {
+            self.take_uses(table, ahead);
+        }
+    }
+
+    /// Looks each key up in a memo, one after the other.
+    pub(crate) fn look_up(&mut self, memo: &mut Memo)
+        requires room { HasRoom self.old }
+        requires few { length self.old.keys.list ≤ most_keys }
+        requires none { self.old.found.list ≡ [] }
+        ensures found { self.new.found.list
+            ≡ map (λ key. verdict_of key memo.old.entries) self.old.keys.list }
+        ensures entries { memo.new.entries ≡ looked self.old.keys.list memo.old.entries }
+        ensures capacity { memo.new.capacity ≡ memo.old.capacity }
+        ensures keys { (self.new.keys ≡ self.old.keys) × (self.new.places ≡ self.old.places) }
+        ensures values { self.new.values ≡ self.old.values }
+        ensures room { HasRoom self.new }
+    {
+        look_up(memo, self.keys.as_slice(), &mut self.found);
     }
 
     /// Evaluates each key that wasn't found, and adds the verdicts on the uses.
@@ -243,6 +270,21 @@ impl Round {
         self.keys.clear();
         self.found.clear();
         self.values.clear();
+    }
+}
+
+/// Looks keys up in a memo, one after the other, and adds what is found.
+fn look_up(memo: &mut Memo, keys: &[HashedKey], found: &mut Stack<Option<Verdict>>)
+    requires room { length keys.now ≤ found.old.spare }
+    ensures found { found.new.list
+        ≡ found.old.list ++ map (λ key. verdict_of key memo.old.entries) keys.now }
+    ensures kept { length found.new.list + found.new.spare
+        ≡ length found.old.list + found.old.spare }
+    ensures entries { memo.new.entries ≡ looked keys.now memo.old.entries }
+    ensures capacity { memo.new.capacity ≡ memo.old.capacity }
+{
+    for place in 0..keys.len() {
+        found.push(memo.look(&keys[place])).unwrap();
     }
 }
 

@@ -156,6 +156,16 @@ impl Run {
         })
     }
 
+    /// Gathers the uses that the next look takes, with their keys, where a look comes next: what a
+    /// look would do itself, and needs no book. Contracts see no change. No memory is taken.
+    pub fn gather(&mut self)
+        ensures { self.new ≡ self.old }
+    {
+        if let Stage::Idle = self.stage {
+            self.round.gather(&self.table, &mut self.course.ahead);
+        }
+    }
+
     /// Takes the next uses of the cell, and looks once for each key. What the memo holds under keys
     /// of the run is their verdicts. No memory is taken.
     pub(crate) fn take_uses(&mut self, memo: &mut Memo)
@@ -170,8 +180,8 @@ impl Run {
         ensures capacity { memo.new.capacity ≡ memo.old.capacity }
         ensures valid { IsMemo memo.new }
     {
-        self.round
-            .take_uses(&self.table, &mut self.course.ahead, memo);
+        self.round.gather(&self.table, &mut self.course.ahead);
+        self.round.look_up(memo);
         self.stage = Stage::Ready;
         // A clause of the length says that the memo is one.
         let _ = memo.len();

@@ -45,7 +45,7 @@ fn begin<R: Wait>(
     begun
 }
 
-/// A look of a run, under one hold of the turn.
+/// A look of a run, under one hold of the turn. The uses that it takes are gathered before.
 fn look<R: Wait>(rt: &R, turn: &Turn<Book>, pass: &mut Pass<Book>, run: &mut Run)
     requires of_turn { IsPassOf turn.now pass.old }
     requires idle { IsIdle pass.old }
@@ -55,6 +55,7 @@ fn look<R: Wait>(rt: &R, turn: &Turn<Book>, pass: &mut Pass<Book>, run: &mut Run
     ensures same { (pass.new.made ≡ pass.old.made) × (pass.new.heard ≡ pass.old.heard) }
     ensures look { IsLook run.old run.new }
 {
+    run.gather();
     let mut book = turn.take(rt, pass);
     book.obeys();
     book.look(run);

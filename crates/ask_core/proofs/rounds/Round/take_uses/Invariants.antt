@@ -9,14 +9,13 @@ use Rattle.ask_core.proofs.rounds.Round.take_uses.Given as goal
 -- the uses that are taken so far, and those ahead
 abbrev pub invariant-loop : goal.invariant-loop
 invariant-loop l = record {
-  taken : HasTaken l.table l.fn.memo.entries (uses_ahead l.table.model.rows l.fn.ahead) l.ahead l.self l.memo;
+  taken : HasTaken l.table (uses_ahead l.table.model.rows l.fn.ahead) l.ahead l.self;
   room : HasRoom l.self;
   few : length l.self.places.list ≤ most_uses;
   few_keys : length l.self.keys.list ≤ most_keys;
-  each : length l.self.found.list ≡ length l.self.keys.list;
   ahead : IsAhead l.table.model.rows l.ahead;
   primitives : AllByRecursion (λ u. IsPrimitiveRow (row_at l.table.model.rows u.number)) (uses_ahead l.table.model.rows l.ahead);
-  capacity : l.memo.capacity ≡ l.fn.memo.capacity;
+  found : l.self.found ≡ l.fn.self.found;
   values : l.self.values ≡ l.fn.self.values;
 }
 
