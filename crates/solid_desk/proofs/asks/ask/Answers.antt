@@ -28,6 +28,12 @@ first p = p.0
 last : {A B C D : Type 0} → A × B × C × D → D
 last p = p.3
 
+pub returns-in_err-reply-2-clause-goes_on : goal.returns-in_err-reply-2-clause-goes_on
+returns-in_err-reply-2-clause-goes_on g c =
+    let now = c.round.ensures in
+    first (asking_ends c.args.turn.now c.args.pass.now c.loop-run.pass c.round.new.pass c.args.question.now c.args.live c.loop-run.run c.round.new.run _ _ _ c.loop-run.invariant
+    now.goes_on now.made now.running now.run now.often now.light)
+
 pub returns-in_err-reply-2-clause-light : goal.returns-in_err-reply-2-clause-light
 returns-in_err-reply-2-clause-light g c =
     let now = c.round.ensures in
