@@ -1,6 +1,6 @@
 //! The turn without a model: the clauses are equations of views.
 ghost use Rattle.std.specs.Prelude.{◌≡◌, ◌+◌, ◌<◌, ◌≤◌, ◌^◌, ◌⊎◌, [], ◌∷◌, ◌++◌, length};
-ghost use Rattle.std.specs.Prelude.{IfOk, Some, None};
+ghost use Rattle.std.specs.Prelude.{IfOk, Some, None, true, false};
 ghost use mathlib.Core.List.{IsPrefix};
 ghost use Rattle.turn_book.specs.Steps.{with_turn, with_entry, without_turn, with_count, met};
 ghost use Rattle.turn_book.specs.Steps.{without_part, new_part, without_old_fronts};
@@ -14,9 +14,10 @@ use crate::steps::{AddEntry, CutPart, GiveTurn, LearnFronts, LoadCount, TakeIn, 
 use crate::view::View;
 use atomic_table::Table;
 use std::alloc::{AllocError, Global};
+use std::hint::spin_loop;
 use std::snapshot::Snapshot;
 use std::sync::Wait;
-use std::sync::atomic::{AtomicU64, Ordering};
+use std::time::Duration;
 
 /// The word that is 1 while a pass has the turn, and else 0.
 const TURN: usize = 0;
@@ -27,12 +28,29 @@ const COUNT: usize = 1;
 /// The slot that has the book, or nothing while it is out.
 const BOOK: usize = 0;
 
+/// How often a thread tries for the turn before it sleeps, and how often the processor pauses after
+/// each try: together somewhat longer than a look or a fill holds the turn. No clause reads these
+/// and the times below.
+const QUICK_TRIES: usize = 16;
+
+const PAUSES: usize = 16;
+
+/// How long a thread sleeps at first, and at most, in microseconds.
+const SHORTEST_SLEEP: u64 = 50;
+
+const LONGEST_SLEEP: u64 = 200;
+
+/// The processor pauses.
+fn pause() {
+    for _ in 0..PAUSES {
+        spin_loop();
+    }
+}
+
 /// A table of two words and one slot, under the rule.
 #[derive(Drop)]
 pub struct RawTurn<B: Logged> {
     pub(crate) table: Table<Option<B>, View<B::Opening, B::Entry>, Snapshot<B>, Ruled<B>, Global>,
-    /// How many threads sleep, or are about to, until the turn is given up. No clause reads it.
-    waiting: AtomicU64,
     ghost counts: { (table.shared.table_id.words ≡ 2) × (table.shared.table_id.slots ≡ 1) },
 }
 
@@ -56,10 +74,7 @@ impl<B: Logged> RawTurn<B> {
             return Err(AllocError);
         };
         Ok((
-            RawTurn {
-                table,
-                waiting: AtomicU64::new(0),
-            },
+            RawTurn { table },
             RawPass {
                 seat,
                 taken_count: 0,
@@ -67,22 +82,31 @@ impl<B: Logged> RawTurn<B> {
         ))
     }
 
-    /// Sleeps while the turn word is 1, until a wake.
-    fn sleep<R: Wait>(&self, rt: &R) {
-        self.waiting.fetch_add(1, Ordering::SeqCst);
-        self.table.shared.park(rt, TURN, 1);
-        self.waiting.fetch_sub(1, Ordering::SeqCst);
-    }
-
-    /// Wakes one thread that sleeps, after the turn was given up. Whoever isn't counted yet finds
-    /// the turn word 0 and doesn't sleep.
-    fn wake(&self) {
-        if self.waiting.load(Ordering::SeqCst) > 0 {
-            self.table.shared.wake_one(TURN);
+    /// Tries some times whether the turn word is 0, with a pause after each.
+    fn try_win(&self, pass: &mut RawPass<B>) -> bool
+        requires seat { IsSeatOf B.opening B.log self.now.table.shared.table_id
+            self.now.table.shared.key.value pass.old.seat }
+        requires aside { IsAside pass.old.seat }
+        ensures table { pass.new.seat.table_id ≡ pass.old.seat.table_id }
+        ensures count { pass.new.taken_count ≡ pass.old.taken_count }
+        ensures taken { result ≡ true →
+            TakesBook B.opening B.log pass.old.seat.me pass.new.seat.me }
+        ensures unchanged { result ≡ false → pass.new.seat.me ≡ pass.old.seat.me }
+    {
+        let table = &self.table.shared;
+        for _ in 0..QUICK_TRIES {
+            let found = table.compare_exchange::<TakeTurn<B>>(&mut pass.seat, TURN, 0, 1);
+            if found == 0 {
+                return true;
+            }
+            pause();
         }
+        false
     }
 
-    /// Tries again until the turn word was 0, and sleeps while it is 1.
+    /// Tries until the turn word was 0, and sleeps while it is 1, for longer and longer. Nobody
+    /// wakes a sleeper: whoever gives the turn up mostly takes it again soon, and then finds the
+    /// book where it was used last.
     fn win<R: Wait>(&self, rt: &R, pass: &mut RawPass<B>)
         requires seat { IsSeatOf B.opening B.log self.now.table.shared.table_id
             self.now.table.shared.key.value pass.old.seat }
@@ -91,13 +115,14 @@ impl<B: Logged> RawTurn<B> {
         ensures count { pass.new.taken_count ≡ pass.old.taken_count }
         ensures taken { TakesBook B.opening B.log pass.old.seat.me pass.new.seat.me }
     {
-        let table = &self.table.shared;
+        let mut sleep = SHORTEST_SLEEP;
         for _ in rt.forever() {
-            let found = table.compare_exchange::<TakeTurn<B>>(&mut pass.seat, TURN, 0, 1);
-            if found == 0 {
+            if self.try_win(pass) {
                 return;
             }
-            self.sleep(rt);
+            let micros = Duration::from_micros(sleep);
+            self.table.shared.park_timeout(rt, TURN, 1, micros);
+            sleep = sleep.saturating_mul(2).min(LONGEST_SLEEP);
         }
         unreachable!()
     }
@@ -136,7 +161,6 @@ impl<B: Logged> RawTurn<B> {
         let vacant = table.exchange(&mut pass.seat, BOOK, Some(book));
         let None = vacant else { unreachable!() };
         table.swap::<GiveTurn>(&mut pass.seat, TURN, 0);
-        self.wake();
     }
 
     /// Gives the book back with one entry more. The book goes into its slot first, so that the step
@@ -157,7 +181,6 @@ impl<B: Logged> RawTurn<B> {
         let None = vacant else { unreachable!() };
         table.fetch_add::<AddEntry<B>>(&mut pass.seat, COUNT, 1);
         table.swap::<GiveTurn>(&mut pass.seat, TURN, 0);
-        self.wake();
     }
 
     /// Gives the book back, with at most one entry more.
@@ -252,7 +275,7 @@ impl<B: Logged + Drop> RawTurn<B> {
             seat,
             taken_count: _,
         } = pass;
-        let RawTurn { table, waiting: _ } = self;
+        let RawTurn { table } = self;
         let mut closed = table.close_with(seat);
         drop(closed.take(BOOK));
         closed.free();

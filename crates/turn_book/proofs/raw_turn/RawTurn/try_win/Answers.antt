@@ -1,6 +1,6 @@
 use Rattle.std.proofs.Common.{rules, ◌≡◌, [], sym, ◌∙◌, subst}
 use Rattle.turn_book.proofs.StepsKeep.{AllowsTake, takes_turn}
-use Rattle.turn_book.proofs.raw_turn.RawTurn.win.Goals as goal
+use Rattle.turn_book.proofs.raw_turn.RawTurn.try_win.Goals as goal
 
 pub compare_exchange-found-requires : goal.compare_exchange-found-requires
 compare_exchange-found-requires g c =
