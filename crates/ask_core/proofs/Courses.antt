@@ -10,7 +10,6 @@ use Rattle.solid_base.specs.Graph.{AreSound, weight_of}
 use Rattle.solid_base.specs.Ranges.{IsLawfulRow}
 use Rattle.solid_base.specs.Stack.{Stack}
 use Rattle.iges_parameters.specs.Accepted.{IsAcceptedEntity}
-use Rattle.fixed_enclosure.specs.declared.enclosures.Box3.{Box3}
 use Rattle.fixed_enclosure.specs.Places.{spans_of}
 use Rattle.fixed_enclosure.specs.Spans.{box_of}
 use Rattle.solid_eval.specs.Solids.{solid_of}

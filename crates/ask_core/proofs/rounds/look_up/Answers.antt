@@ -1,4 +1,4 @@
-use Rattle.std.proofs.Common.{◌≡◌, ◌+◌, ◌<◌, ◌++◌, [], ◌∷◌, length, drop, get_or, sym, ap, ◌∙◌, arith}
+use Rattle.std.proofs.Common.{◌+◌, ◌++◌, [], ◌∷◌, drop, get_or, sym, ap, ◌∙◌, arith}
 use Rattle.memo_graph.specs.Memos.{verdict_of, promoted}
 use Rattle.memo_graph.proofs.Keeping.{verdicts-promoted}
 use Rattle.ask_core.specs.Runs.{looked}

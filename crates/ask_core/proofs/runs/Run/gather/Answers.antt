@@ -1,4 +1,4 @@
-use Rattle.std.proofs.Common.{◌≡◌, sym, ap, ◌∙◌, subst}
+use Rattle.std.proofs.Common.{◌∙◌, subst}
 use Rattle.std.specs.Arc.{arc_value}
 use Rattle.ask_core.specs.RunStates.{facts_of, IsRun}
 use Rattle.ask_core.specs.declared.runs.Stage.TheVariants as stage
