@@ -34,6 +34,8 @@ PROGRAM = """\
 //! Times the memo.
 #![tactic(auto)]
 
+ghost use Rattle.fixed_enclosure.specs.Spans.{IsEnc};
+
 use fixed_enclosure::{Box3, Enc};
 use memo_graph::{HashedKey, Memo};
 use solid_base::{Class, Verdict};
@@ -43,7 +45,9 @@ use std::io;
 
 const CAPACITY: usize = 65_536;
 
-fn span(middle: i64) -> Enc {
+fn span(middle: i32) -> Enc
+    ensures { IsEnc result }
+{
     let middle = middle as i128;
     Enc::Span {
         lo: middle * 1_000 - 500,
@@ -55,9 +59,9 @@ fn span(middle: i64) -> Enc {
 fn key(number: u32) -> HashedKey {
     let (place, entity) = (number >> 6, number & 63);
     let at = Box3 {
-        x: span((place & 255) as i64),
-        y: span((place >> 8 & 255) as i64 - 128),
-        z: span((place >> 16) as i64 * 10_000_000),
+        x: span((place & 255) as i32),
+        y: span((place >> 8 & 255) as i32 - 128),
+        z: span((place >> 16) as i32),
     };
     HashedKey::new(2 * entity + 1, 3, &at)
 }
@@ -266,7 +270,7 @@ impl Memo {
     }
 }
 
-fn span(middle: i64) -> Enc {
+fn span(middle: i32) -> Enc {
     let middle = i128::from(middle);
     Enc::Span { lo: middle * 1_000 - 500, hi: middle * 1_000 + 500 }
 }
@@ -277,9 +281,9 @@ fn key(number: u32) -> Key {
         de: 2 * entity + 1,
         stamp: 3,
         at: [
-            span(i64::from(place & 255)),
-            span(i64::from(place >> 8 & 255) - 128),
-            span(i64::from(place >> 16) * 10_000_000),
+            span((place & 255) as i32),
+            span((place >> 8 & 255) as i32 - 128),
+            span((place >> 16) as i32),
         ],
     }
 }

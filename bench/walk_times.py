@@ -25,14 +25,15 @@ TIMES = 20
 LINE = "walk_times: solid_base fixed_enclosure iges_parameters entity_graph iges_file solid_eval\n"
 
 INVARIANTS = """\
+use Rattle.fixed_enclosure.specs.Spans.{IsBox}
 use Rattle.solid_eval.specs.Walking.{IsWalk}
 use Rattle.walk_times.proofs.walk_all.Given as goal
 
 abbrev pub invariant-loop-2 : goal.invariant-loop-2
-invariant-loop-2 l = IsWalk l.rows l.walk
+invariant-loop-2 l = record { walk : IsWalk l.rows l.walk; there : IsBox l.there }
 
 abbrev pub invariant-loop : goal.invariant-loop
-invariant-loop l = IsWalk l.rows l.walk
+invariant-loop l = record { walk : IsWalk l.rows l.walk; there : IsBox l.there }
 """
 
 ANSWERS = """\
@@ -80,10 +81,11 @@ fn walk_all(alloc: Global, rows: &Rows, graph: &Graph, at: &Box3) -> Result<u64,
 {
     graph.obeys();
     let mut walk = Walk::new(alloc, 1, at)?;
+    let mut there = *at;
     let mut count: u64 = 0;
     for _ in 0..u64::MAX {
         for _ in 0..ROUND {
-            match walk.next(rows) {
+            match walk.next(rows, &mut there) {
                 Some(_) => count = count.saturating_add(1),
                 None => return Ok(count),
             }
